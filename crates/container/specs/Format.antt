@@ -1,0 +1,72 @@
+-- What a container is: document 01's rules for the bytes of META1 and META2 as named facts, whatever loads them.
+-- Tasks and chunks are counted from 0: i for task i + 1, k for chunk k + 1. Definitions only.
+use mathlib.Core.Path.{_≡_}
+use mathlib.Core.Bool.{Bool}
+use mathlib.Core.List.{List}
+use Prim.Native.Nat.{ℕ, _^_, _≤_, _<_}
+use lib.IntN.{ℤ, pos}
+use lib.ListN.{length, take}
+use Rattle.layout.specs.Limits.{maxTasks, minBlocksize, maxBlocksize, maxSize, maxBlocks, maxRank}
+use Rattle.layout.specs.Areas.{meta1End, capacity, meta2Start, meta2End}
+use Rattle.container.specs.Meta1
+use Rattle.container.specs.Meta2
+
+-- what a container says: its byte order, and the numbers that its fields hold
+pub record Contents : Type 0 where
+  pub big : Bool
+  pub version : ℤ
+  pub patch : ℤ
+  pub blocksize : ℕ
+  pub n : ℕ
+  pub rank : ℕ → ℕ
+  pub size : ℕ → ℕ
+  pub maxchunks : ℕ
+  pub count : ℕ → ℕ
+  pub written : ℕ → ℕ → ℕ
+
+-- META1 of an image holds these contents, and they keep its rules
+pub record HasMeta1 (image : List ℕ) (c : Contents) : Type 0 where
+  pub long : meta1End (c .n) ≤ length image
+  pub marked : take 4 image ≡ Meta1.mark
+  pub order-is : Meta1.orderField (c .big) image ≡ pos Meta1.orderNumber
+  pub version-is : Meta1.versionField (c .big) image ≡ c .version
+  pub patch-is : Meta1.patchField (c .big) image ≡ c .patch
+  pub format-is : Meta1.formatField (c .big) image ≡ pos Meta1.formatVersion
+  pub blocksize-is : Meta1.blocksizeField (c .big) image ≡ pos (c .blocksize)
+  pub blocksize-power : (j : ℕ) × (c .blocksize ≡ 2 ^ j)
+  pub blocksize-range : (minBlocksize ≤ c .blocksize) × (c .blocksize ≤ maxBlocksize)
+  pub tasks-are : Meta1.tasksField (c .big) image ≡ pos (c .n)
+  pub tasks-range : (1 ≤ c .n) × (c .n ≤ maxTasks)
+  pub files-are : Meta1.filesField (c .big) image ≡ pos Meta1.fileCount
+  pub file-number-is : Meta1.fileNumberField (c .big) image ≡ pos Meta1.fileNumber
+  pub ranks-are : (i : ℕ) → i < c .n → Meta1.rankField (c .big) image i ≡ pos (c .rank i)
+  pub ranks-range : (i : ℕ) → i < c .n → c .rank i ≤ maxRank
+  pub ranks-differ : (i j : ℕ) → i < c .n → j < c .n → c .rank i ≡ c .rank j → i ≡ j
+  pub sizes-are : (i : ℕ) → i < c .n → Meta1.sizeField (c .big) image (c .n) i ≡ pos (c .size i)
+  pub sizes-range : (i : ℕ) → i < c .n → (1 ≤ c .size i) × (c .size i ≤ maxSize)
+  pub maxchunks-is : Meta1.maxchunksField (c .big) image (c .n) ≡ pos (c .maxchunks)
+  pub maxchunks-range : c .maxchunks ≤ maxBlocks
+  pub start-is : Meta1.startField (c .big) image (c .n) ≡ pos (meta2Start (c .blocksize) (c .n) (c .size) (c .maxchunks))
+
+-- META2's own part of the image, and the value of chunk k of task i in it
+abbrev pub partOf : List ℕ → Contents → List ℕ
+partOf image c = Meta2.meta2Part image (meta2Start (c .blocksize) (c .n) (c .size) (c .maxchunks)) (c .n) (c .maxchunks)
+
+abbrev pub valueOf : List ℕ → Contents → ℕ → ℕ → ℤ
+valueOf image c k i = Meta2.valueField (c .big) (partOf image c) (c .n) (Meta2.valueIndex (c .n) k i)
+
+-- META2 stands where META1 says, whole, and keeps its rule
+pub record HasMeta2 (image : List ℕ) (c : Contents) : Type 0 where
+  pub fits : meta2End (c .blocksize) (c .n) (c .size) (c .maxchunks) ≤ length image
+  pub counts-are : (i : ℕ) → i < c .n → Meta2.countField (c .big) (partOf image c) i ≡ pos (c .count i)
+  pub counts-range : (i : ℕ) → i < c .n → c .count i ≤ c .maxchunks
+  pub greatest : (i : ℕ) × (i < c .n) × (c .count i ≡ c .maxchunks)
+  pub used-first : (i k : ℕ) → i < c .n → k < c .count i → valueOf image c k i ≡ pos (c .written k i)
+  pub used-fit : (i k : ℕ) → i < c .n → k < c .count i → c .written k i ≤ capacity (c .blocksize) (c .size i)
+  pub others-unused : (i k : ℕ) → i < c .n → c .count i ≤ k → k < c .maxchunks → valueOf image c k i ≡ Meta2.unused
+
+-- "The loader accepts exactly the format": what it accepts, given a table that is long enough
+pub record IsContainer (image : List ℕ) : Type 0 where
+  pub says : Contents
+  pub first : HasMeta1 image says
+  pub second : HasMeta2 image says

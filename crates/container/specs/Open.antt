@@ -1,0 +1,77 @@
+-- Opening a session (document 01, "A session"): its tests, and what an accepted and a refused opening leave. Definitions only.
+use mathlib.Core.Bool.{Bool, cond, not, _||_}
+use mathlib.Core.List.{List, [], _∷_, _++_}
+use Prim.Native.Nat.{ℕ, _-_, _*_}
+use lib.Dec.{ltb, eqb}
+use lib.IntN.{ℤ, pos}
+use lib.ListN.{length, replicate}
+use Rattle.endian.specs.Splice.{splice}
+use Rattle.layout.specs.Limits.{maxTasks, blocksizeRule, tasksRule, ranksRule, sizesRule, plannedRule}
+use Rattle.layout.specs.Areas.{meta1End, dataStart}
+use Rattle.container.specs.declared.record.Head.{Head}
+use Rattle.container.specs.declared.record.Session.{Session}
+use Rattle.container.specs.declared.record.Written.{Written}
+use Rattle.container.specs.Refusals.{Test, test, firstFailing}
+use Rattle.container.specs.Meta1.{prefixLength, meta1}
+use Rattle.container.specs.Meta2.{unused}
+use Rattle.container.specs.Records.{entry, isOrder, tooShort, headOf, sessionOf, noSession}
+
+-- what opening is given beside the image and the table
+pub record Opening : Type 0 where
+  pub order : ℕ
+  pub version : ℤ
+  pub patch : ℤ
+  pub blocksize : ℕ
+  pub ranks : List ℕ
+  pub sizes : List ℕ
+  pub prefix : List ℕ
+  pub planned : ℕ
+
+module _ (o : Opening) where
+  abbrev pub tasks : ℕ
+  tasks = length (o .ranks)
+
+  -- "2, 5, 6, 21, 8, 9, 20": the tests of the plan
+  unfoldable pub planTests : List Test
+  planTests =
+      test 2 (not (isOrder (o .order)))
+      ∷ test 5 (not (blocksizeRule (pos (o .blocksize))))
+      ∷ test 6 (not (tasksRule (pos tasks)) || not (eqb tasks (length (o .sizes))))
+      ∷ test 21 (ltb prefixLength (length (o .prefix)))
+      ∷ test 8 (not (ranksRule tasks (λ i. pos (entry (o .ranks) i))))
+      ∷ test 9 (not (sizesRule tasks (λ i. pos (entry (o .sizes) i))))
+      ∷ test 20 (not (plannedRule (pos (o .planned))))
+      ∷ []
+
+  -- then 18: "The image needs D + K·G + 8n(1+K) bytes", the table "at least n times K" cells
+  unfoldable pub openRefusal : ℕ → ℕ → ℕ
+  openRefusal imageLength cells =
+      firstFailing
+      (planTests ++ (test 18 (tooShort (o .blocksize) tasks (entry (o .sizes)) (o .planned) imageLength cells) ∷ []))
+
+  unfoldable pub openHead : Head
+  openHead = headOf (o .order) (o .version) (o .patch) (o .blocksize) tasks (entry (o .ranks)) (entry (o .sizes))
+
+  -- no chunk begun, the mark unset
+  unfoldable pub openSession : Session
+  openSession = sessionOf openHead (replicate maxTasks 0) (o .planned) 0
+
+  -- "META1 and zeros up to D"
+  unfoldable pub openBytes : List ℕ
+  openBytes = meta1 openHead (o .prefix) 0 0 ++ replicate (dataStart (o .blocksize) tasks - meta1End tasks) 0
+
+  module _ (image : List ℕ) (table : List ℤ) where
+    unfoldable pub opens : Bool
+    opens = eqb (openRefusal (length image) (length table)) 0
+
+    unfoldable pub openAnswer : Written
+    openAnswer =
+        cond opens (record { refusal = 0; session = openSession })
+        (record { refusal = openRefusal (length image) (length table); session = noSession })
+
+    -- "Opening writes META1 and zeros up to D, and -1 in the first n·K cells. Nothing else changes."
+    unfoldable pub openImage : List ℕ
+    openImage = cond opens (splice image 0 openBytes) image
+
+    unfoldable pub openTable : List ℤ
+    openTable = cond opens (splice table 0 (replicate (tasks * o .planned) unused)) table

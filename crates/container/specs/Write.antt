@@ -1,0 +1,93 @@
+-- A session with its image and its table, and a write to it (document 01, "A write names a task ..."): its tests, where the bytes go,
+-- and what an accepted write changes. It speaks of counts and cells; the tally of u and w stands in Tally.antt. Definitions only.
+use mathlib.Core.Bool.{Bool, cond, not, _&&_, _||_}
+use mathlib.Core.List.{List, [], _∷_, _++_}
+use Prim.Native.Nat.{ℕ, _+_, _-_}
+use lib.Dec.{ltb, leb, eqb}
+use lib.IntN.{ℤ, pos}
+use lib.ListN.{length, set}
+use Rattle.endian.specs.Signed.{within, natural}
+use Rattle.endian.specs.Splice.{splice}
+use Rattle.container.specs.declared.record.Session.{Session}
+use Rattle.container.specs.declared.record.Written.{Written}
+use Rattle.container.specs.Refusals.{Test, test, firstFailing}
+use Rattle.container.specs.Meta2.{valueIndex}
+use Rattle.container.specs.Records.{entry, cell, holds, startOf, sessionSound, shortFor, cellsAgree, withCount}
+
+pub record State : Type 0 where
+  pub session : Session
+  pub image : List ℕ
+  pub table : List ℤ
+
+pub record Request : Type 0 where
+  pub task : ℕ
+  pub bytes : List ℕ
+
+-- "17, 18, 19": what write and close test of a session
+unfoldable pub sessionTests : State → List Test
+sessionTests st =
+    test 17 (not (eqb (st .session .closed) 0) || not (sessionSound (st .session)))
+    ∷ test 18 (shortFor (st .session .head) (st .session .planned) (st .image) (st .table))
+    ∷ test 19 (not (cellsAgree (st .session .head) (st .session .planned) (st .session .counts) (st .table)))
+    ∷ []
+
+-- a task number from 1 to n
+abbrev pub isTask : ℕ → ℕ → Bool
+isTask n task = within 1 n (pos task)
+
+-- where bytes go: a chunk, counted from 1, and how many bytes stand in it before them
+pub record Spot : Type 0 where
+  pub chunk : ℕ
+  pub from : ℕ
+
+module _ (st : State) (q : Request) where
+  -- the chunks that the task has begun, the bytes in the last of them, and what a chunk of it holds
+  unfoldable pub begun : ℕ
+  begun = entry (st .session .counts) (q .task - 1)
+
+  unfoldable pub inLast : ℕ
+  inLast = natural (cell (st .table) (valueIndex (st .session .head .n) (begun - 1) (q .task - 1)))
+
+  unfoldable pub room : ℕ
+  room = holds (st .session .head) (q .task - 1)
+
+  -- "if the task has a chunk in use and the bytes fit in what is left of its requested size, they go there, straight after the
+  -- last. Else they go to the start of its next chunk"
+  unfoldable pub spot : Spot
+  spot =
+      cond (ltb 0 begun && leb (length (q .bytes)) (room - inLast))
+      (record { chunk = begun; from = inLast })
+      (record { chunk = begun + 1; from = 0 })
+
+  -- the offset of the first of them
+  unfoldable pub target : ℕ
+  target = startOf (st .session .head) (q .task) (spot .chunk) + spot .from
+
+  -- "14, empty accepted, 15, 16"; a next chunk is there "if its number is at most K"
+  unfoldable pub requestTests : List Test
+  requestTests =
+      test 14 (not (isTask (st .session .head .n) (q .task)))
+      ∷ cond (eqb (length (q .bytes)) 0) []
+      (test 15 (ltb room (length (q .bytes))) ∷ test 16 (ltb (st .session .planned) (spot .chunk)) ∷ [])
+
+  -- "17, 18, 19, 14, empty accepted, 15, 16"
+  unfoldable pub writeRefusal : ℕ
+  writeRefusal = firstFailing (sessionTests st ++ requestTests)
+
+  -- "Only those bytes, that cell and that task's count change."
+  unfoldable pub stored : State
+  stored =
+      record {
+        session = withCount (st .session) (q .task - 1) (spot .chunk);
+        image = splice (st .image) target (q .bytes);
+        table =
+            set (st .table) (valueIndex (st .session .head .n) (spot .chunk - 1) (q .task - 1))
+            (pos (spot .from + length (q .bytes)));
+      }
+
+  -- "Empty: accepted, nothing changes"; and nothing changes where it is refused
+  unfoldable pub afterWrite : State
+  afterWrite = cond (eqb writeRefusal 0 && not (eqb (length (q .bytes)) 0)) stored st
+
+  abbrev pub writeAnswer : Written
+  writeAnswer = record { refusal = writeRefusal; session = afterWrite .session }

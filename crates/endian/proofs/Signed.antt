@@ -1,0 +1,89 @@
+-- Laws of two's complement, each once for every width: there and back, bounds, a range test, and what is read where it was stored.
+-- Assumes nothing.
+use mathlib.Core.Path.{_≡_, refl, sym, ap, _∙_}
+use mathlib.Core.Bool.{Bool, true, false, _&&_, and-false}
+use mathlib.Core.List.{List}
+use Prim.Native.Nat.{ℕ, zero, suc, _+_, _-_, _*_, _^_, _<_, _≤_}
+use native.Mathlib.Nat.{pow-suc, mul-suc}
+use native.Mathlib.Omega.{arith}
+use lib.Arith.{comp-comp, comp-ge}
+use lib.Dec.{ltb, leb}
+use lib.IntN.{ℤ, pos, negsuc}
+use lib.ListN.{length}
+use lib.Pow.{pow-add}
+use lib.Signed.{mag}
+use borrow.Author.Tests.{lt-ltb, le-ltb, ltb-true, ltb-false, leb-true, le-leb, lt-leb, eqb-true, eq-eqb}
+use Rattle.endian.specs.Signed.{signed, bitsOf, signBit, signedAt, signedDigits, within, sameZ, natural}
+use Rattle.endian.specs.Splice.{splice}
+use Rattle.endian.proofs.Below.{and-left, and-right}
+use Rattle.endian.proofs.Number.{read-back}
+
+-- the lower and the upper half of the numbers of h + 1 bits
+pub signed-low : (h n : ℕ) → n < 2 ^ h → signed h n ≡ pos n
+signed-low h n l = rw (lt-ltb n (2 ^ h) l)
+
+pub signed-high : (h n : ℕ) → 2 ^ h ≤ n → signed h n ≡ negsuc (2 ^ suc h - suc n)
+signed-high h n l = rw (le-ltb n (2 ^ h) l)
+
+pub natural-signed : (h n : ℕ) → n < 2 ^ h → natural (signed h n) ≡ n
+natural-signed h n l = ap natural (signed-low h n l)
+
+pub signed-bitsOf : (h : ℕ) (z : ℤ) → mag z < 2 ^ h → signed h (bitsOf h z) ≡ z
+signed-bitsOf h (pos n) l = signed-low h n l
+signed-bitsOf h (negsuc n) l =
+    let e = pow-suc 2 h in
+    signed-high h (2 ^ suc h - suc n) (rw e (comp-ge l)) ∙ ap negsuc (comp-comp (rw e (omega arith)))
+
+pub bitsOf-signed : (h n : ℕ) → n < 2 ^ suc h → bitsOf h (signed h n) ≡ n
+bitsOf-signed h n l = go (ltb n (2 ^ h)) refl
+  where
+    go : (b : Bool) → ltb n (2 ^ h) ≡ b → bitsOf h (signed h n) ≡ n
+    go true e = ap (bitsOf h) (signed-low h n (ltb-true _ _ e))
+    go false e = ap (bitsOf h) (signed-high h n (ltb-false _ _ e)) ∙ comp-comp l
+
+pub bitsOf-lt : (h : ℕ) (z : ℤ) → mag z < 2 ^ h → bitsOf h z < 2 ^ suc h
+bitsOf-lt h (pos n) l = let e = pow-suc 2 h in omega arith
+bitsOf-lt h (negsuc n) l = let e = pow-suc 2 h in omega arith
+
+-- what a range test says of a number that is not negative, and back
+pub within-facts : (lo hi n : ℕ) → within lo hi (pos n) ≡ true → (lo ≤ n) × (n ≤ hi)
+within-facts lo hi n e = (leb-true lo n (and-left (leb lo n) (leb n hi) e), leb-true n hi (and-right (leb lo n) (leb n hi) e))
+
+pub within-holds : (lo hi n : ℕ) → lo ≤ n → n ≤ hi → within lo hi (pos n) ≡ true
+within-holds lo hi n l h = rw (le-leb lo n l) (le-leb n hi h)
+
+-- an unsigned reading passes a range test exactly when the signed one does
+pub within-signed : (lo hi h n : ℕ) → hi < 2 ^ h → within lo hi (signed h n) ≡ (leb lo n && leb n hi)
+within-signed lo hi h n l = go (ltb n (2 ^ h)) refl
+  where
+    go : (b : Bool) → ltb n (2 ^ h) ≡ b → within lo hi (signed h n) ≡ (leb lo n && leb n hi)
+    go true e = ap (within lo hi) (signed-low h n (ltb-true _ _ e))
+    go false e =
+        let m : 2 ^ h ≤ n = ltb-false _ _ e in
+        ap (within lo hi) (signed-high h n m) ∙ sym (rw (lt-leb n hi (omega arith)) (and-false (leb lo n)))
+
+-- the bits of w bytes
+pow-bytes : (w : ℕ) → 2 ^ (8 * w) ≡ 256 ^ w
+pow-bytes zero = refl
+pow-bytes (suc w) = rw (mul-suc, pow-add 2 (8 * w) 8, pow-bytes w, pow-suc 256 w)
+
+pub pow-signBit : (w : ℕ) → 0 < w → 2 ^ suc (signBit w) ≡ 256 ^ w
+pow-signBit w h = ap (λ (n : ℕ). 2 ^ n) (omega arith) ∙ pow-bytes w
+
+-- an integer that was stored is read back
+pub signed-read-back : (big : Bool) (w : ℕ) (z : ℤ) (xs : List ℕ) (at : ℕ) → 0 < w → at + w ≤ length xs → mag z < 2 ^ signBit w
+    → signedAt big w (splice xs at (signedDigits big w z)) at ≡ z
+signed-read-back big w z xs at some fits l =
+    ap (signed (signBit w)) (read-back big w (bitsOf (signBit w) z) xs at fits (rw (pow-signBit w some) at (bitsOf-lt (signBit w) z l)))
+    ∙ signed-bitsOf (signBit w) z l
+
+-- equality of integers, as the test has it
+pub sameZ-eq : (a b : ℤ) → sameZ a b ≡ true → a ≡ b
+sameZ-eq (pos m) (pos n) e = ap pos (eqb-true m n e)
+sameZ-eq (pos m) (negsuc n) e = cc
+sameZ-eq (negsuc m) (pos n) e = cc
+sameZ-eq (negsuc m) (negsuc n) e = ap negsuc (eqb-true m n e)
+
+pub sameZ-refl : (z : ℤ) → sameZ z z ≡ true
+sameZ-refl (pos n) = eq-eqb n n refl
+sameZ-refl (negsuc n) = eq-eqb n n refl

@@ -1,0 +1,94 @@
+-- `read::get_u64` meets its contract: the 8 bytes that it reads are the part, in either order.
+use mathlib.Core.Bool.{true, false}
+use borrow.Author.Needs.{needs}
+use Rattle.endian.specs.Below.{joinBelow}
+use Rattle.endian.proofs.Number.{numberAt-bytes}
+use Rattle.endian.proofs.read.get_u64.Statement.{statement}
+use Rattle.endian.proofs.read.get_u64.Tie as tie
+
+shared-slice-read-a : tie.Need-shared-slice-read-a
+shared-slice-read-a c = search needs
+
+add-b : tie.Need-add-b
+add-b c = search needs
+
+shared-slice-read-b : tie.Need-shared-slice-read-b
+shared-slice-read-b c = search needs
+
+add-c : tie.Need-add-c
+add-c c = search needs
+
+shared-slice-read-c : tie.Need-shared-slice-read-c
+shared-slice-read-c c = search needs
+
+add-d : tie.Need-add-d
+add-d c = search needs
+
+shared-slice-read-d : tie.Need-shared-slice-read-d
+shared-slice-read-d c = search needs
+
+add-e : tie.Need-add-e
+add-e c = search needs
+
+shared-slice-read-e : tie.Need-shared-slice-read-e
+shared-slice-read-e c = search needs
+
+add-f : tie.Need-add-f
+add-f c = search needs
+
+shared-slice-read-f : tie.Need-shared-slice-read-f
+shared-slice-read-f c = search needs
+
+add-g : tie.Need-add-g
+add-g c = search needs
+
+shared-slice-read-g : tie.Need-shared-slice-read-g
+shared-slice-read-g c = search needs
+
+add-h : tie.Need-add-h
+add-h c = search needs
+
+shared-slice-read-h : tie.Need-shared-slice-read-h
+shared-slice-read-h c = search needs
+
+join8-requires : tie.Need-join8-requires
+join8-requires c κs = search needs
+
+join8-requires-2 : tie.Need-join8-requires-2
+join8-requires-2 c κs = search needs
+
+returns : tie.Need-returns
+unfolding joinBelow
+returns c =
+    let z = c .before .before .before .before .before .before .before .before .before .before .before in
+    numberAt-bytes true 7 (z .args .s .now) (z .args .at) (z .pre) (c .before .if1 .taken) (c .join8 .ensures)
+
+returns-2 : tie.Need-returns-2
+unfolding joinBelow
+returns-2 c =
+    let z = c .before .before .before .before .before .before .before .before .before .before .before in
+    numberAt-bytes false 7 (z .args .s .now) (z .args .at) (z .pre) (c .before .if1 .left) (c .join82 .ensures)
+
+pub get-u64-spec : {M : Type 1} → statement M
+get-u64-spec =
+    tie.close
+    (tie.spec
+    shared-slice-read-a
+    add-b
+    shared-slice-read-b
+    add-c
+    shared-slice-read-c
+    add-d
+    shared-slice-read-d
+    add-e
+    shared-slice-read-e
+    add-f
+    shared-slice-read-f
+    add-g
+    shared-slice-read-g
+    add-h
+    shared-slice-read-h
+    join8-requires
+    join8-requires-2
+    returns
+    returns-2)

@@ -1,0 +1,4 @@
+pub mod Below
+pub mod Number
+pub mod Signed
+pub mod Splice

@@ -1,0 +1,5 @@
+// Numbers of 4 and 8 bytes in either byte order, unsigned and signed, and the two stores that all others go through: a copy and a fill.
+pub mod read;
+pub mod sign;
+pub mod store;
+pub mod write;

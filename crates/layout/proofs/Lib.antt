@@ -1,0 +1,4 @@
+pub mod Rounding
+pub mod Power
+pub mod Bounds
+pub mod Chunks
