@@ -1,7 +1,7 @@
 -- The paper's numbers are those that the rules compute. Assumes nothing.
 use mathlib.Core.Path.{_≡_, refl, _∙_}
-use mathlib.Core.Bool.{true, false, cond}
-use Prim.Native.Nat.{ℕ, _≤_, _<_}
+use mathlib.Core.Bool.{true}
+use Prim.Native.Nat.{_<_}
 use native.Mathlib.Omega.{arith}
 use lib.ListN.{length}
 use borrow.Author.Tests.{lt-ltb, ne-eqb}
@@ -14,12 +14,12 @@ use Rattle.container.specs.Refusals.{firstFailing}
 use Rattle.container.proofs.Refusals.{first-passes}
 use Rattle.container.specs.Meta1.{lastFields, meta1}
 use Rattle.container.specs.Meta2.{valueRule, valuesRule, countsRule, meta2}
-use Rattle.container.specs.Records.{filled, holds, startOf, meta2At, endAt, headOf, headSound, sessionSound, loadedSound, tooShort, cellsAgree}
+use Rattle.container.specs.Records.{filled, holds, startOf, meta2At, endAt, headOf, headSound, sessionSound, loadedSound, tooShort, cellsAgree, recordTests, isTask}
 use Rattle.container.specs.Open.{planTests, openRefusal, opens, openHead, openSession, openBytes, openAnswer, openImage, openTable}
-use Rattle.container.specs.Write.{State, Request, sessionTests, isTask, begun, inLast, room, spot, target, requestTests, writeRefusal, stored, afterWrite}
+use Rattle.container.specs.Write.{State, Request, sessionTests, begun, inLast, room, spot, target, requestTests, writeRefusal, stored, afterWrite}
 use Rattle.container.specs.Close.{maxchunksOf, meta2Of, closedImage, closeRefusal, closeAnswer, closeImage}
 use Rattle.container.specs.Load.{markedIn, bigIn, orderedIn, tasksIn, maxchunksIn, headIn, meta1Tests, countsIn, valuesIn, meta2Tests, partIn, loadedIn, loadRefusal, loadAnswer, loadTable}
-use Rattle.container.specs.Reads.{readTests, used, writtenIn, chunkBytes, totalOf, totalAnswer}
+use Rattle.container.specs.Reads.{readTests, used, writtenIn, chunkBytes, chunkRefusal, chunkPart, streamOf, totalOf, totalAnswer, readRefusal, readAnswer, readOutput}
 use Rattle.container.specs.Tally.{Plan, Ask, Tally, fate, answerTo, told}
 use Rattle.container.specs.Numbers.{Agrees, pTable, otherTable}
 
@@ -27,14 +27,14 @@ both-tables : Agrees pTable × Agrees otherTable
 unfolding allBelow anyBelow sumBelow greatestBelow joinBelow flatten splice tasksRule powerOfTwo blocksizeRule sizesRule plannedRule
     maxchunksRule allDifferent ranksRule meta1End roundUp dataStart extended capacity extendedBefore globalskip chunkStart
     meta2Start meta2Length meta2End firstFailing lastFields meta1 valueRule valuesRule countsRule meta2 filled headSound
-    sessionSound loadedSound tooShort cellsAgree planTests holds startOf meta2At endAt headOf openRefusal opens openHead openSession
+    sessionSound loadedSound tooShort cellsAgree recordTests planTests holds startOf meta2At endAt headOf openRefusal opens openHead openSession
     openBytes openAnswer openImage openTable sessionTests begun inLast room spot target requestTests stored maxchunksOf meta2Of
     closedImage writeRefusal afterWrite closeRefusal closeAnswer closeImage markedIn bigIn orderedIn tasksIn maxchunksIn headIn
     meta1Tests countsIn valuesIn meta2Tests partIn loadedIn loadRefusal loadAnswer loadTable readTests used writtenIn chunkBytes
-    totalOf totalAnswer fate told pTable otherTable
+    chunkRefusal chunkPart streamOf totalOf totalAnswer readRefusal readAnswer readOutput fate told pTable otherTable
 both-tables = (
   (refl, (refl, (refl, (refl, (refl, (refl, (refl, (refl, (refl, (refl, (refl, (refl, (refl, tt))))))))))))),
-  (refl, (refl, (refl, (refl, tt)))),
+  (refl, (refl, (refl, (refl, (refl, (refl, (refl, (refl, tt)))))))),
 )
 
 -- P1 to P13, and the numbers that are not marked
@@ -47,7 +47,7 @@ other-table = both-tables .1
 -- P13, "refused with 15 at any moment": whatever a session holds, once it passes 17, 18 and 19, and whatever the tally keeps
 pub too-long : (st : State) (q : Request) → firstFailing (sessionTests st) ≡ 0 → isTask (st .session .head .n) (q .task) ≡ true
     → room st q < length (q .bytes) → writeRefusal st q ≡ 15
-unfolding writeRefusal firstFailing sessionTests requestTests
+unfolding writeRefusal firstFailing recordTests sessionTests requestTests
 too-long st q passes task long =
     first-passes (sessionTests st) (requestTests st q) (omega arith, (omega arith, (omega arith, tt))) passes
     ∙ simp (task, ne-eqb (length (q .bytes)) 0 (λ e. omega arith), lt-ltb _ _ long)

@@ -1,10 +1,10 @@
 -- What is answered where one list of tests follows another. Assumes nothing.
-use mathlib.Core.Path.{_≡_, refl, sym, ap, _∙_}
+use mathlib.Core.Path.{_≡_, refl}
 use mathlib.Core.Bool.{Bool, true, false, cond}
 use mathlib.Core.List.{List, [], _∷_, _++_}
-use Prim.Native.Nat.{ℕ, zero, suc, _+_, _≤_, _<_}
+use Prim.Native.Nat.{_<_}
 use native.Mathlib.Omega.{arith}
-use Rattle.container.specs.Refusals.{Test, test, firstFailing}
+use Rattle.container.specs.Refusals.{Test, firstFailing}
 
 -- no test has the number 0, which says that all passed
 abbrev pub Numbered : List Test → Type 0

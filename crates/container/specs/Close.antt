@@ -1,15 +1,15 @@
 -- Closing a session (document 01, "Closing writes META2 ..."): its tests, and what an accepted and a refused close leave.
 -- The table stays as it is in either case. Definitions only.
-use mathlib.Core.Bool.{Bool, cond}
+use mathlib.Core.Bool.{cond}
 use mathlib.Core.List.{List}
-use Prim.Native.Nat.{ℕ, _+_, _*_}
+use Prim.Native.Nat.{ℕ}
 use lib.Dec.{eqb}
 use Rattle.endian.specs.Below.{greatestBelow}
 use Rattle.endian.specs.Splice.{splice}
 use Rattle.container.specs.declared.record.Closed.{Closed}
 use Rattle.container.specs.declared.record.Session.{Session}
 use Rattle.container.specs.Refusals.{firstFailing}
-use Rattle.container.specs.Meta1.{fixedLength, lastFields}
+use Rattle.container.specs.Meta1.{lastAt, lastFields}
 use Rattle.container.specs.Meta2.{meta2}
 use Rattle.container.specs.Records.{entry, cell, isBig, meta2At, endAt, marked}
 use Rattle.container.specs.Write.{State, sessionTests}
@@ -32,7 +32,7 @@ module _ (st : State) where
   unfoldable pub closedImage : List ℕ
   closedImage =
       splice (splice (st .image) (meta2At (st .session .head) (maxchunksOf (st .session))) meta2Of)
-      (fixedLength + 16 * st .session .head .n)
+      (lastAt (st .session .head .n))
       (lastFields (isBig (st .session .head)) (maxchunksOf (st .session)) (meta2At (st .session .head) (maxchunksOf (st .session))))
 
   -- "marks the session closed, and reports the container's length: the end of META2"

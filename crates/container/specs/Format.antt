@@ -27,7 +27,7 @@ pub record Contents : Type 0 where
 -- META1 of an image holds these contents, and they keep its rules
 pub record HasMeta1 (image : List ℕ) (c : Contents) : Type 0 where
   pub long : meta1End (c .n) ≤ length image
-  pub marked : take 4 image ≡ Meta1.mark
+  pub marked : take (length Meta1.mark) image ≡ Meta1.mark
   pub order-is : Meta1.orderField (c .big) image ≡ pos Meta1.orderNumber
   pub version-is : Meta1.versionField (c .big) image ≡ c .version
   pub patch-is : Meta1.patchField (c .big) image ≡ c .patch
@@ -65,7 +65,7 @@ pub record HasMeta2 (image : List ℕ) (c : Contents) : Type 0 where
   pub used-fit : (i k : ℕ) → i < c .n → k < c .count i → c .written k i ≤ capacity (c .blocksize) (c .size i)
   pub others-unused : (i k : ℕ) → i < c .n → c .count i ≤ k → k < c .maxchunks → valueOf image c k i ≡ Meta2.unused
 
--- "The loader accepts exactly the format": what it accepts, given a table that is long enough
+-- a container: what the loader has to accept, given a table that is long enough, and nothing else
 pub record IsContainer (image : List ℕ) : Type 0 where
   pub says : Contents
   pub first : HasMeta1 image says

@@ -4,7 +4,7 @@ use mathlib.Core.Bool.{Bool, true, false, cond, not, _&&_, _||_}
 use mathlib.Core.List.{List, [], _∷_, _++_}
 use Prim.Native.Nat.{ℕ, _*_}
 use lib.Dec.{ltb, eqb}
-use lib.IntN.{ℤ, pos}
+use lib.IntN.{ℤ}
 use lib.ListN.{length, getD}
 use Rattle.endian.specs.Below.{allBelow, listBelow}
 use Rattle.endian.specs.Signed.{within, natural}
@@ -52,7 +52,7 @@ module _ (xs : List ℕ) where
   -- tests 1 to 12, of an image of `len` bytes
   unfoldable pub meta1Tests : ℕ → List Test
   meta1Tests len =
-      test 1 (ltb len 4 || not markedIn)
+      test 1 (ltb len (length Meta1.mark) || not markedIn)
       ∷ test 2 (ltb len 8 || not orderedIn)
       ∷ test 3 (ltb len Meta1.fixedLength)
       ∷ test 4 (not (is Meta1.formatVersion (Meta1.formatField bigIn xs)))

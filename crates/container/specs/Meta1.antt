@@ -33,6 +33,10 @@ prefixLength = 1024
 abbrev pub fixedLength : ℕ
 fixedLength = 1076
 
+-- where the last two fields, maxchunks and start_of_varheader, stand
+abbrev pub lastAt : ℕ → ℕ
+lastAt n = fixedLength + 16 * n
+
 -- ---- the table of fields, read from an image in a byte order; i counts tasks from 0
 
 module _ (big : Bool) (image : List ℕ) where
@@ -67,10 +71,10 @@ module _ (big : Bool) (image : List ℕ) where
   sizeField n i = signedAt big 8 image (fixedLength + 8 * n + 8 * i)
 
   abbrev pub maxchunksField : ℕ → ℤ
-  maxchunksField n = signedAt big 4 image (fixedLength + 16 * n)
+  maxchunksField n = signedAt big 4 image (lastAt n)
 
   abbrev pub startField : ℕ → ℤ
-  startField n = signedAt big 8 image (fixedLength + 16 * n + 4)
+  startField n = signedAt big 8 image (lastAt n + 4)
 
 -- ---- META1 as bytes, of a record's head
 

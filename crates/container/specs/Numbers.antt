@@ -5,18 +5,18 @@ use mathlib.Core.Bool.{Bool, true, false}
 use mathlib.Core.List.{List, [], _∷_, _++_, map}
 use Prim.Native.Nat.{ℕ, _+_, _*_}
 use lib.IntN.{ℤ, pos, negsuc}
-use lib.ListN.{length, take, replicate}
+use lib.ListN.{length, getD, take, replicate}
 use Rattle.endian.specs.Below.{listBelow}
 use Rattle.endian.specs.Signed.{signedAt}
-use Rattle.layout.specs.Areas.{meta1End, dataStart, extended, globalskip, chunkStart, imageNeeded, capacity}
-use Rattle.container.specs.Meta1.{maxchunksField, startField}
+use Rattle.layout.specs.Areas.{meta1End, dataStart, extended, globalskip, chunkStart, imageNeeded}
+use Rattle.container.specs.Meta1.{formatField, maxchunksField, startField}
 use Rattle.container.specs.Records.{entry, orderOf}
-use Rattle.container.specs.Open.{Opening, openRefusal, openAnswer, openImage, openTable}
+use Rattle.container.specs.Open.{Opening, openRefusal, openSession, openAnswer, openImage, openTable}
 use Rattle.container.specs.Write.{State, Request, target, writeRefusal, afterWrite}
 use Rattle.container.specs.Close.{closeAnswer, closeImage}
 use Rattle.container.specs.Load.{loadRefusal, loadAnswer, loadTable}
-use Rattle.container.specs.Reads.{Container, totalAnswer}
-use Rattle.container.specs.Tally.{Plan, Ask, blank, answers, held}
+use Rattle.container.specs.Reads.{Container, chunkRefusal, chunkPart, totalAnswer, readRefusal, readAnswer, readOutput}
+use Rattle.container.specs.Tally.{Plan, planOf, Ask, Book, offset, blank, fateIn, toldAll, answers, held}
 
 -- a row: what the rules compute, and what the paper says
 pub record Row : Type 0 where
@@ -54,9 +54,9 @@ opened o imageLength cells =
       table = openTable o (replicate imageLength 0) (replicate cells (pos 0));
     }
 
--- a write of task 1 with so many bytes, all 7
-abbrev pub write : ℕ → Request
-write bytes = record { task = 1; bytes = replicate bytes 7 }
+-- a write of task 1: so many bytes of one value
+abbrev pub write : ℕ → ℕ → Request
+write bytes value = record { task = 1; bytes = replicate bytes value }
 
 abbrev pub run : State → List Request → State
 run st [] = st
@@ -66,18 +66,37 @@ abbrev pub refusals : State → List Request → List ℕ
 refusals st [] = []
 refusals st (q ∷ qs) = writeRefusal st q ∷ refusals (afterWrite st q) qs
 
+-- what the tally is fed of them
+abbrev pub asks : List Request → List Ask
+asks qs = map (λ (q : Request). record { task = q .task; L = length (q .bytes) }) qs
+
 -- ---- "blocksize 512, sizes 500 and 600, K=3": after 300 and 200 bytes of task 1, and after 1 more
 
 abbrev pub two : List ℕ
 two = 500 ∷ 600 ∷ []
 
-abbrev pub twoWritten : ℕ → State
-twoWritten order = run (opened (plan order 512 two 3) 6208 6) (write 300 ∷ write 200 ∷ [])
+abbrev pub twoOpened : ℕ → State
+twoOpened order = opened (plan order 512 two 3) 6208 6
+
+abbrev pub twoFirst : List Request
+twoFirst = write 300 1 ∷ write 200 2 ∷ []
+
+abbrev pub twoLast : Request
+twoLast = write 1 3
+
+abbrev pub twoWritten : State
+twoWritten = run (twoOpened 0) twoFirst
 
 abbrev pub twoDone : ℕ → State
-twoDone order = afterWrite (twoWritten order) (write 1)
+twoDone order = run (twoOpened order) (twoFirst ++ (twoLast ∷ []))
 
--- closed, in a byte order: META1's last two fields, META2 and the length
+abbrev pub twoPlan : Plan
+twoPlan = planOf (openSession (plan 0 512 two 3))
+
+abbrev pub twoBook : Book
+twoBook = toldAll twoPlan blank (asks twoFirst)
+
+-- closed, in a byte order: META1's last two fields, META2, the length and the mark
 abbrev pub twoClosed : Bool → List ℤ
 twoClosed big =
     let done = twoDone (orderOf big) in
@@ -85,24 +104,24 @@ twoClosed big =
     maxchunksField big image 2
     ∷ startField big image 2
     ∷ listBelow 6 (λ j. signedAt big 8 image (4608 + 8 * j))
-    ++ (pos (closeAnswer done .length) ∷ [])
+    ++ (pos (closeAnswer done .length) ∷ pos (closeAnswer done .session .closed) ∷ [])
 
 abbrev pub twoStated : List ℤ
-twoStated = pos 2 ∷ pos 4608 ∷ pos 2 ∷ pos 0 ∷ pos 500 ∷ negsuc 0 ∷ pos 1 ∷ negsuc 0 ∷ pos 4656 ∷ []
+twoStated = pos 2 ∷ pos 4608 ∷ pos 2 ∷ pos 0 ∷ pos 500 ∷ negsuc 0 ∷ pos 1 ∷ negsuc 0 ∷ pos 4656 ∷ pos 1 ∷ []
 
 -- ---- "Size 500, K=2", one task: 1, 500 and 1, with a request of 501 at each moment, by the session's rules and by the tally
 
-abbrev pub lengths : List ℕ
-lengths = 501 ∷ 1 ∷ 501 ∷ 500 ∷ 501 ∷ 1 ∷ 501 ∷ []
+abbrev pub oneOpened : State
+oneOpened = opened (plan 0 512 (500 ∷ []) 2) (imageNeeded 512 1 (λ i. 500) 2) 2
+
+abbrev pub oneRequests : List Request
+oneRequests = map (λ (L : ℕ). write L 7) (501 ∷ 1 ∷ 501 ∷ 500 ∷ 501 ∷ 1 ∷ 501 ∷ [])
 
 abbrev pub onePlan : Plan
-onePlan = record { n = 1; K = 2; c = λ t. capacity 512 500; start = chunkStart 512 1 (λ i. 500) }
-
-abbrev pub ask : ℕ → Ask
-ask L = record { task = 1; L = L }
+onePlan = planOf (openSession (plan 0 512 (500 ∷ []) 2))
 
 abbrev pub oneAnswers : List ℕ
-oneAnswers = answers onePlan blank (map ask lengths)
+oneAnswers = answers onePlan blank (asks oneRequests)
 
 -- P1 to P13, in order
 unfoldable pub pTable : List Row
@@ -134,20 +153,25 @@ pTable =
     ∷ openRefusal (plan 0 512 two 3) 6207 6
     ∷ [])
     (4608 ∷ 5120 ∷ 6208 ∷ 0 ∷ 18 ∷ [])
-    -- P11
+    -- P11, with the last byte's offset by the session's rule, the bytes there before and after, and its offset by the tally
     ∷ row
-    (refusals (opened (plan 0 512 two 3) 6208 6) (write 300 ∷ write 200 ∷ write 1 ∷ []) ++ (target (twoWritten 0) (write 1) ∷ []))
-    (0 ∷ 0 ∷ 0 ∷ 3072 ∷ [])
+    (refusals (twoOpened 0) (twoFirst ++ (twoLast ∷ []))
+    ++ (target twoWritten twoLast
+    ∷ getD (twoWritten .image) 3072 0
+    ∷ getD (twoDone 0 .image) 3072 0
+    ∷ offset twoPlan 1 (fateIn twoPlan twoBook (record { task = 1; L = 1 })) (twoBook 1)
+    ∷ []))
+    (0 ∷ 0 ∷ 0 ∷ 3072 ∷ 0 ∷ 3 ∷ 3072 ∷ [])
     -- P12
     ∷ record { computed = twoClosed false ++ twoClosed true; stated = twoStated ++ twoStated }
     -- P13
     ∷ row
-    (refusals (opened (plan 0 512 (500 ∷ []) 2) 2584 2) (map write lengths)
-    ++ (oneAnswers ++ (2 * (held 1 (map ask lengths) oneAnswers + 1) ∷ onePlan .K * onePlan .c 1 ∷ [])))
+    (refusals oneOpened oneRequests
+    ++ (oneAnswers ++ (2 * (held 1 (asks oneRequests) oneAnswers + 1) ∷ onePlan .K * onePlan .c 1 ∷ [])))
     (15 ∷ 0 ∷ 15 ∷ 0 ∷ 15 ∷ 16 ∷ 15 ∷ 15 ∷ 0 ∷ 15 ∷ 0 ∷ 15 ∷ 16 ∷ 15 ∷ 1004 ∷ 1000 ∷ [])
     ∷ []
 
--- ---- the unmarked numbers, with opening's answers, and P12's container loaded
+-- ---- the unmarked numbers and limits, with opening's answers, and P12's container loaded and read
 
 abbrev pub withBlocksize : ℕ → ℕ
 withBlocksize b = openRefusal (plan 0 b (500 ∷ []) 1) (8 * 4_194_304) 1
@@ -155,23 +179,76 @@ withBlocksize b = openRefusal (plan 0 b (500 ∷ []) 1) (8 * 4_194_304) 1
 abbrev pub withTasks : ℕ → ℕ
 withTasks n = openRefusal (plan 0 512 (replicate n 512) 1) 65_536 64
 
--- the program's line: the refusal number, n, maxchunks and each task's total
-abbrev pub line : List ℕ → List ℕ
+abbrev pub withPlanned : ℕ → ℕ
+withPlanned k = openRefusal (plan 0 512 (500 ∷ []) k) 65_536 64
+
+abbrev pub withSize : ℕ → ℕ
+withSize c = openRefusal (plan 0 512 (c ∷ []) 1) (2 * 1_073_741_824) 1
+
+abbrev pub withRanks : List ℕ → ℕ
+withRanks ranks =
+    let o = plan 0 512 (500 ∷ 500 ∷ []) 1 in
+    openRefusal
+    (record {
+      order = o .order;
+      version = o .version;
+      patch = o .patch;
+      blocksize = o .blocksize;
+      ranks = ranks;
+      sizes = o .sizes;
+      prefix = o .prefix;
+      planned = o .planned;
+    })
+    65_536 2
+
+-- a container's image, and what loading it hands back
+abbrev pub twoImage : ℕ → ℕ → List ℕ
+twoImage order bytes = take bytes (closeImage (twoDone order))
+
+abbrev pub loadedFrom : List ℕ → Container
+loadedFrom image =
+    record {
+      loaded = loadAnswer image (replicate 4 (pos 0)) .loaded;
+      image = image;
+      table = loadTable image (replicate 4 (pos 0));
+    }
+
+-- the program's line: the refusal number, n, maxchunks and each task's total; then the two version numbers
+abbrev pub line : List ℕ → List ℤ
 line image =
-    let answer = loadAnswer image (replicate 4 (pos 0)) in
-    let c : Container = record { loaded = answer .loaded; image = image; table = loadTable image (replicate 4 (pos 0)) } in
-    answer .refusal
-    ∷ answer .loaded .head .n
-    ∷ answer .loaded .maxchunks
+    let c = loadedFrom image in
+    map pos (
+    loadRefusal image 4
+    ∷ c .loaded .head .n
+    ∷ c .loaded .maxchunks
     ∷ totalAnswer c 1 .bytes
     ∷ totalAnswer c 2 .bytes
-    ∷ []
+    ∷ [])
+    ++ (c .loaded .head .version ∷ c .loaded .head .patch ∷ formatField false image ∷ [])
+
+-- the second chunk of task 1, no third one, the last two bytes of its stream into four bytes of 9, and a place past its total
+abbrev pub reads : Container → List ℕ
+reads c =
+    chunkPart c 1 2
+    ++ (chunkRefusal c 1 3
+    ∷ readAnswer c 1 499 (replicate 4 9) .bytes
+    ∷ readOutput c 1 499 (replicate 4 9)
+    ++ (readRefusal c 1 502 ∷ readRefusal c 3 0 ∷ []))
 
 unfoldable pub otherTable : List Row
 otherTable =
     row (map withBlocksize (512 ∷ 4_194_304 ∷ 256 ∷ 768 ∷ 8_388_608 ∷ [])) (0 ∷ 0 ∷ 5 ∷ 5 ∷ 5 ∷ [])
     ∷ row (map withTasks (64 ∷ 0 ∷ 65 ∷ [])) (0 ∷ 6 ∷ 6 ∷ [])
-    -- "For P12 the line is `0 2 2 501 0`", from its 4,656 bytes; with one fewer META2 does not fit
-    ∷ row (line (take 4656 (closeImage (twoDone 0)))) (0 ∷ 2 ∷ 2 ∷ 501 ∷ 0 ∷ [])
-    ∷ row (loadRefusal (take 4655 (closeImage (twoDone 1))) 4 ∷ []) (12 ∷ [])
+    ∷ row (map withPlanned (1 ∷ 32 ∷ 0 ∷ 33 ∷ [])) (0 ∷ 0 ∷ 20 ∷ 20 ∷ [])
+    ∷ row (map withSize (1 ∷ 1_073_741_824 ∷ 0 ∷ 1_073_741_825 ∷ [])) (0 ∷ 0 ∷ 9 ∷ 9 ∷ [])
+    ∷ row
+    (withRanks (0 ∷ 2_147_483_647 ∷ []) ∷ withRanks (0 ∷ 2_147_483_648 ∷ []) ∷ withRanks (3 ∷ 3 ∷ []) ∷ [])
+    (0 ∷ 8 ∷ 8 ∷ [])
+    -- "For P12 the line is `0 2 2 501 0`", from its 4,656 bytes; with one byte fewer META2 does not fit
+    ∷ record {
+      computed = line (twoImage 0 4656);
+      stated = pos 0 ∷ pos 2 ∷ pos 2 ∷ pos 501 ∷ pos 0 ∷ pos 1 ∷ pos 7 ∷ pos 3 ∷ [];
+    }
+    ∷ row (loadRefusal (twoImage 1 4655) 4 ∷ []) (12 ∷ [])
+    ∷ row (reads (loadedFrom (twoImage 1 4656))) (3 ∷ 22 ∷ 2 ∷ 2 ∷ 3 ∷ 9 ∷ 9 ∷ 23 ∷ 14 ∷ [])
     ∷ []

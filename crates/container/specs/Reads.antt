@@ -1,6 +1,6 @@
 -- Reads on a loaded record with its image and its table (document 01, "Reads take a loaded record ..."): the part of one chunk, the
 -- copying read and a task's total, each with its tests. Definitions only.
-use mathlib.Core.Bool.{Bool, cond, not, _||_}
+use mathlib.Core.Bool.{cond, not}
 use mathlib.Core.List.{List, [], _∷_, _++_}
 use Prim.Native.Nat.{ℕ, _+_, _-_, min}
 use lib.Dec.{ltb, eqb}
@@ -13,8 +13,7 @@ use Rattle.container.specs.declared.record.Loaded.{Loaded}
 use Rattle.container.specs.declared.record.Counted.{Counted}
 use Rattle.container.specs.Refusals.{Test, test, firstFailing}
 use Rattle.container.specs.Meta2.{valueIndex}
-use Rattle.container.specs.Records.{entry, cell, startOf, loadedSound, shortFor, cellsAgree}
-use Rattle.container.specs.Write.{isTask}
+use Rattle.container.specs.Records.{entry, cell, startOf, loadedSound, recordTests, isTask}
 
 -- a loaded record with its image and its table
 pub record Container : Type 0 where
@@ -22,15 +21,14 @@ pub record Container : Type 0 where
   pub image : List ℕ
   pub table : List ℤ
 
+-- the task is counted from 1
 module _ (c : Container) (task : ℕ) where
   -- "17, 18, 19, 14"
   unfoldable pub readTests : List Test
   readTests =
-      test 17 (not (eqb (c .loaded .closed) 0) || not (loadedSound (c .loaded)))
-      ∷ test 18 (shortFor (c .loaded .head) (c .loaded .maxchunks) (c .image) (c .table))
-      ∷ test 19 (not (cellsAgree (c .loaded .head) (c .loaded .maxchunks) (c .loaded .counts) (c .table)))
-      ∷ test 14 (not (isTask (c .loaded .head .n) task))
-      ∷ []
+      recordTests (c .loaded .closed) (loadedSound (c .loaded)) (c .loaded .head) (c .loaded .maxchunks) (c .loaded .counts)
+      (c .image) (c .table)
+      ++ (test 14 (not (isTask (c .loaded .head .n) task)) ∷ [])
 
   unfoldable pub used : ℕ
   used = entry (c .loaded .counts) (task - 1)

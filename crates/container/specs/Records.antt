@@ -1,17 +1,19 @@
 -- Document 01, "A session": the records of a session and of a load, when each is sound, and how they are made and changed.
 -- A record's lists have an entry for each of the most tasks; those past n are 0 and not judged. Definitions only.
 use mathlib.Core.Bool.{Bool, cond, not, _&&_, _||_}
-use mathlib.Core.List.{List}
-use Prim.Native.Nat.{ℕ, _+_, _-_, _*_}
+use mathlib.Core.List.{List, [], _∷_}
+use Prim.Native.Nat.{ℕ, _*_}
 use lib.Dec.{ltb, leb, eqb}
 use lib.IntN.{ℤ, pos}
 use lib.ListN.{length, getD, set, replicate}
 use Rattle.endian.specs.Below.{allBelow, listBelow}
+use Rattle.endian.specs.Signed.{within}
 use Rattle.layout.specs.Limits.{maxTasks, blocksizeRule, tasksRule, ranksRule, sizesRule, plannedRule, maxchunksRule}
 use Rattle.layout.specs.Areas.{capacity, chunkStart, meta2Start, meta2End}
 use Rattle.container.specs.declared.record.Head.{Head}
 use Rattle.container.specs.declared.record.Session.{Session}
 use Rattle.container.specs.declared.record.Loaded.{Loaded}
+use Rattle.container.specs.Refusals.{Test, test}
 use Rattle.container.specs.Meta2.{valuesRule, countsRule}
 
 -- an entry of a record's list, a cell of a table, and a list of n entries followed by zeros
@@ -75,12 +77,21 @@ loadedSound l =
 unfoldable pub tooShort : ℕ → ℕ → (ℕ → ℕ) → ℕ → ℕ → ℕ → Bool
 tooShort b n size m imageLength cells = ltb imageLength (meta2End b n size m) || ltb cells (n * m)
 
-abbrev pub shortFor : Head → ℕ → List ℕ → List ℤ → Bool
-shortFor h m image table = tooShort (h .blocksize) (h .n) (entry (h .sizes)) m (length image) (length table)
-
 -- "table cells disagree with the record": judged over all n times m cells, by META2's rule
 unfoldable pub cellsAgree : Head → ℕ → List ℕ → List ℤ → Bool
 cellsAgree h m counts table = valuesRule (h .n) m (holds h) (entry counts) (cell table)
+
+-- "17, 18, 19": what write, close and the reads test of a record, by its mark, whether it is sound, and for m chunks its cells
+unfoldable pub recordTests : ℕ → Bool → Head → ℕ → List ℕ → List ℕ → List ℤ → List Test
+recordTests closed sound h m counts image table =
+    test 17 (not (eqb closed 0) || not sound)
+    ∷ test 18 (tooShort (h .blocksize) (h .n) (entry (h .sizes)) m (length image) (length table))
+    ∷ test 19 (not (cellsAgree h m counts table))
+    ∷ []
+
+-- a task number, counted from 1
+abbrev pub isTask : ℕ → ℕ → Bool
+isTask n task = within 1 n (pos task)
 
 -- ---- the places where a record is made or changed
 

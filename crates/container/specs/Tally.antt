@@ -1,11 +1,13 @@
 -- Document 01, "The tally of demand 3": what it is fed, what it keeps of a task (u and w alone), and what it answers to each write.
--- It knows nothing of records, images and tables. Definitions only.
-use mathlib.Core.Bool.{Bool, cond, not, _&&_, _||_}
+-- Its rules know nothing of records, images and tables; `planOf` alone says what of a session it is fed. Definitions only.
+use mathlib.Core.Bool.{cond, not, _&&_}
 use mathlib.Core.List.{List, [], _∷_}
-use Prim.Native.Nat.{ℕ, _+_}
+use Prim.Native.Nat.{ℕ, _+_, _-_}
 use lib.Dec.{ltb, leb, eqb}
 use lib.IntN.{pos}
 use Rattle.endian.specs.Signed.{within}
+use Rattle.container.specs.declared.record.Session.{Session}
+use Rattle.container.specs.Records.{holds, startOf}
 
 -- "The tally is fed n, K, each task's c and chunk starts": chunk k of task t starts at `start t k`, both counted from 1
 pub record Plan : Type 0 where
@@ -13,6 +15,9 @@ pub record Plan : Type 0 where
   pub K : ℕ
   pub c : ℕ → ℕ
   pub start : ℕ → ℕ → ℕ
+
+abbrev pub planOf : Session → Plan
+planOf s = record { n = s .head .n; K = s .planned; c = λ task. holds (s .head) (task - 1); start = startOf (s .head) }
 
 -- "and of each write only task number and length L"
 pub record Ask : Type 0 where

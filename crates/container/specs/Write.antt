@@ -1,39 +1,34 @@
 -- A session with its image and its table, and a write to it (document 01, "A write names a task ..."): its tests, where the bytes go,
 -- and what an accepted write changes. It speaks of counts and cells; the tally of u and w stands in Tally.antt. Definitions only.
-use mathlib.Core.Bool.{Bool, cond, not, _&&_, _||_}
+use mathlib.Core.Bool.{cond, not, _&&_}
 use mathlib.Core.List.{List, [], _∷_, _++_}
 use Prim.Native.Nat.{ℕ, _+_, _-_}
 use lib.Dec.{ltb, leb, eqb}
 use lib.IntN.{ℤ, pos}
 use lib.ListN.{length, set}
-use Rattle.endian.specs.Signed.{within, natural}
+use Rattle.endian.specs.Signed.{natural}
 use Rattle.endian.specs.Splice.{splice}
 use Rattle.container.specs.declared.record.Session.{Session}
 use Rattle.container.specs.declared.record.Written.{Written}
 use Rattle.container.specs.Refusals.{Test, test, firstFailing}
 use Rattle.container.specs.Meta2.{valueIndex}
-use Rattle.container.specs.Records.{entry, cell, holds, startOf, sessionSound, shortFor, cellsAgree, withCount}
+use Rattle.container.specs.Records.{entry, cell, holds, startOf, sessionSound, recordTests, isTask, withCount}
 
 pub record State : Type 0 where
   pub session : Session
   pub image : List ℕ
   pub table : List ℤ
 
+-- the task is counted from 1
 pub record Request : Type 0 where
   pub task : ℕ
   pub bytes : List ℕ
 
--- "17, 18, 19": what write and close test of a session
+-- "17, 18, 19"
 unfoldable pub sessionTests : State → List Test
 sessionTests st =
-    test 17 (not (eqb (st .session .closed) 0) || not (sessionSound (st .session)))
-    ∷ test 18 (shortFor (st .session .head) (st .session .planned) (st .image) (st .table))
-    ∷ test 19 (not (cellsAgree (st .session .head) (st .session .planned) (st .session .counts) (st .table)))
-    ∷ []
-
--- a task number from 1 to n
-abbrev pub isTask : ℕ → ℕ → Bool
-isTask n task = within 1 n (pos task)
+    recordTests (st .session .closed) (sessionSound (st .session)) (st .session .head) (st .session .planned) (st .session .counts)
+    (st .image) (st .table)
 
 -- where bytes go: a chunk, counted from 1, and how many bytes stand in it before them
 pub record Spot : Type 0 where

@@ -1,4 +1,4 @@
-// The two stores that every other store of the library goes through.
+// The two stores of bytes that every other one goes through.
 ghost use mathlib.Core.Path.{_≡_};
 ghost use Prim.Native.Nat.{_≤_};
 ghost use lib.ListN.{length, replicate};

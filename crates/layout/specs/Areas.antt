@@ -1,5 +1,5 @@
 -- Document 01, "Where the chunks lie", with the ends of both metadata blocks. b is the blocksize, n the number of tasks, `size i` the
--- requested size of task i + 1. Tasks and chunks are counted from 1, as in the paper. Definitions only.
+-- requested size of task i + 1. A task or a chunk that is an argument by that name is counted from 1, as in the paper. Definitions only.
 use Prim.Native.Nat.{ℕ, _+_, _-_, _*_, _/_}
 use Rattle.endian.specs.Below.{sumBelow}
 

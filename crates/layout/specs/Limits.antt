@@ -36,7 +36,7 @@ tasksRule n = within 1 maxTasks n
 abbrev pub wordBits : ℕ
 wordBits = 64
 
--- 2 ^ j for some j
+-- 2 ^ j for some j that a word has digits for
 unfoldable pub powerOfTwo : ℕ → Bool
 powerOfTwo b = anyBelow wordBits (λ j. eqb b (2 ^ j))
 
@@ -63,7 +63,7 @@ allDifferent n rank = allBelow n (λ i. allBelow i (λ j. not (sameZ (rank j) (r
 unfoldable pub ranksRule : ℕ → (ℕ → ℤ) → Bool
 ranksRule n rank = allBelow n (λ i. within 0 maxRank (rank i)) && allDifferent n rank
 
--- what the layout's functions ask of the numbers that they are handed: all within the limits, and a size for each task
+-- what the layout's functions ask of the numbers that they are handed: none over its limit, and a size for each task
 pub record Sound (b n : ℕ) (sizes : List ℕ) : Type 0 where
   pub block : blocksizeRule (pos b) ≡ true
   pub tasks : n ≤ maxTasks

@@ -2,9 +2,9 @@
 // Every function asks for numbers within document 01's limits, under which no sum here can overflow.
 ghost use mathlib.Core.Path.{_≡_};
 ghost use mathlib.Core.Bool.{true};
-ghost use Prim.Native.Nat.{ℕ, _+_, _≤_};
+ghost use Prim.Native.Nat.{_+_, _≤_};
 ghost use lib.IntN.{pos};
-ghost use lib.ListN.{length, getD};
+ghost use lib.ListN.{getD};
 ghost use Rattle.layout.specs.Limits.{blocksizeRule, maxTasks, maxSize, maxBlocks, Sound};
 ghost use Rattle.layout.specs.Areas.{meta1End, roundUp, dataStart, extended, extendedBefore, globalskip, chunkStart, meta2Start, meta2End};
 
