@@ -213,7 +213,8 @@ loadedFrom image =
       table = loadTable image (replicate 4 (pos 0));
     }
 
--- the program's line: the refusal number, n, maxchunks and each task's total; then the two version numbers
+-- the program's line: the refusal number, n, maxchunks and each task's total; then library version, patch level and
+-- fileformat_version
 abbrev pub line : List ℕ → List ℤ
 line image =
     let c = loadedFrom image in
@@ -226,7 +227,8 @@ line image =
     ∷ [])
     ++ (c .loaded .head .version ∷ c .loaded .head .patch ∷ formatField false image ∷ [])
 
--- the second chunk of task 1, no third one, the last two bytes of its stream into four bytes of 9, and a place past its total
+-- the second chunk of task 1, no third one, the last two bytes of its stream into four bytes of 9, a place past its total, and no
+-- third task
 abbrev pub reads : Container → List ℕ
 reads c =
     chunkPart c 1 2

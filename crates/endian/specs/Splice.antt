@@ -1,4 +1,4 @@
--- Bytes put into a list at an offset: what every store of the library does. Definitions only.
+-- A list put into another at an offset: what a copy of bytes does. Definitions only.
 use mathlib.Core.List.{List, _++_}
 use Prim.Native.Nat.{ℕ, _+_}
 use lib.ListN.{length, take, drop}
