@@ -1,2 +1,11 @@
-pub mod Refusals
 pub mod Numbers
+pub mod Refusing
+pub mod LoadTests
+pub mod LoadAnswers
+pub mod Only
+pub mod Every
+pub mod Records
+pub mod Readable
+pub mod Stream
+pub mod ReadsBack
+pub mod Demands

@@ -10,16 +10,18 @@ use Rattle.endian.specs.Below.{allBelow, anyBelow, sumBelow, greatestBelow, joi
 use Rattle.endian.specs.Splice.{splice}
 use Rattle.layout.specs.Limits.{tasksRule, powerOfTwo, blocksizeRule, sizesRule, plannedRule, maxchunksRule, allDifferent, ranksRule}
 use Rattle.layout.specs.Areas.{meta1End, roundUp, dataStart, extended, capacity, extendedBefore, globalskip, chunkStart, meta2Start, meta2Length, meta2End}
-use Rattle.container.specs.Refusals.{firstFailing}
-use Rattle.container.proofs.Refusals.{first-passes}
-use Rattle.container.specs.Meta1.{lastFields, meta1}
-use Rattle.container.specs.Meta2.{valueRule, valuesRule, countsRule, meta2}
-use Rattle.container.specs.Records.{filled, holds, startOf, meta2At, endAt, headOf, headSound, sessionSound, loadedSound, tooShort, cellsAgree, recordTests, isTask}
+use Rattle.meta.specs.Refusals.{firstFailing}
+use Rattle.meta.proofs.Refusals.{first-passes}
+use Rattle.meta.specs.Meta1.{lastFields, meta1}
+use Rattle.meta.specs.Meta2.{valueRule, valuesRule, countsRule, meta2}
+use Rattle.meta.specs.Heads.{filled, holds, startOf, meta2At, endAt, headOf, headSound, tooShort, cellsAgree}
+use Rattle.container.specs.Records.{sessionSound, loadedSound, recordTests, isTask}
 use Rattle.container.specs.Open.{planTests, openRefusal, opens, openHead, openSession, openBytes, openAnswer, openImage, openTable}
 use Rattle.container.specs.Write.{State, Request, sessionTests, begun, inLast, room, spot, target, requestTests, writeRefusal, stored, afterWrite}
 use Rattle.container.specs.Close.{maxchunksOf, meta2Of, closedImage, closeRefusal, closeAnswer, closeImage}
-use Rattle.container.specs.Load.{markedIn, bigIn, orderedIn, tasksIn, maxchunksIn, headIn, meta1Tests, countsIn, valuesIn, meta2Tests, partIn, loadedIn, loadRefusal, loadAnswer, loadTable}
-use Rattle.container.specs.Reads.{readTests, used, writtenIn, chunkBytes, chunkRefusal, chunkPart, streamOf, totalOf, totalAnswer, readRefusal, readAnswer, readOutput}
+use Rattle.meta.specs.Judge.{markedIn, bigIn, orderedIn, tasksIn, maxchunksIn, headIn, startTests, fieldTests, fixedTests, listTests, lastTests, meta1Tests, countsIn, valuesIn, meta2Tests}
+use Rattle.container.specs.Load.{partIn, loadedIn, loadRefusal, loadAnswer, loadTable}
+use Rattle.container.specs.Reads.{loadedTests, readTests, used, writtenIn, chunkBytes, chunkRefusal, chunkPart, streamOf, totalOf, totalAnswer, readRefusal, readAnswer, readOutput}
 use Rattle.container.specs.Tally.{Plan, Ask, Tally, fate, answerTo, told}
 use Rattle.container.specs.Numbers.{Agrees, pTable, otherTable}
 
@@ -30,11 +32,11 @@ unfolding allBelow anyBelow sumBelow greatestBelow joinBelow flatten splice task
     sessionSound loadedSound tooShort cellsAgree recordTests planTests holds startOf meta2At endAt headOf openRefusal opens openHead openSession
     openBytes openAnswer openImage openTable sessionTests begun inLast room spot target requestTests stored maxchunksOf meta2Of
     closedImage writeRefusal afterWrite closeRefusal closeAnswer closeImage markedIn bigIn orderedIn tasksIn maxchunksIn headIn
-    meta1Tests countsIn valuesIn meta2Tests partIn loadedIn loadRefusal loadAnswer loadTable readTests used writtenIn chunkBytes
+    startTests fieldTests fixedTests listTests lastTests meta1Tests countsIn valuesIn meta2Tests partIn loadedIn loadRefusal loadAnswer loadTable loadedTests readTests used writtenIn chunkBytes
     chunkRefusal chunkPart streamOf totalOf totalAnswer readRefusal readAnswer readOutput fate told pTable otherTable
 both-tables = (
   (refl, (refl, (refl, (refl, (refl, (refl, (refl, (refl, (refl, (refl, (refl, (refl, (refl, tt))))))))))))),
-  (refl, (refl, (refl, (refl, (refl, (refl, (refl, (refl, tt)))))))),
+  (refl, (refl, (refl, (refl, (refl, (refl, (refl, (refl, (refl, (refl, (refl, tt))))))))))),
 )
 
 -- P1 to P13, and the numbers that are not marked

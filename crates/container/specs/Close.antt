@@ -8,10 +8,11 @@ use Rattle.endian.specs.Below.{greatestBelow}
 use Rattle.endian.specs.Splice.{splice}
 use Rattle.container.specs.declared.record.Closed.{Closed}
 use Rattle.container.specs.declared.record.Session.{Session}
-use Rattle.container.specs.Refusals.{firstFailing}
-use Rattle.container.specs.Meta1.{lastAt, lastFields}
-use Rattle.container.specs.Meta2.{meta2}
-use Rattle.container.specs.Records.{entry, cell, isBig, meta2At, endAt, marked}
+use Rattle.meta.specs.Refusals.{firstFailing}
+use Rattle.meta.specs.Meta1.{lastAt, lastFields}
+use Rattle.meta.specs.Meta2.{meta2}
+use Rattle.meta.specs.Heads.{entry, cell, isBig, meta2At, endAt}
+use Rattle.container.specs.Records.{marked}
 use Rattle.container.specs.Write.{State, sessionTests}
 
 -- maxchunks: the greatest count

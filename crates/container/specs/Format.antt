@@ -8,8 +8,8 @@ use lib.IntN.{ℤ, pos}
 use lib.ListN.{length, take}
 use Rattle.layout.specs.Limits.{maxTasks, minBlocksize, maxBlocksize, maxSize, maxBlocks, maxRank}
 use Rattle.layout.specs.Areas.{meta1End, capacity, meta2Start, meta2End}
-use Rattle.container.specs.Meta1
-use Rattle.container.specs.Meta2
+use Rattle.meta.specs.Meta1
+use Rattle.meta.specs.Meta2
 
 -- what a container says: its byte order, and the numbers that its fields hold
 pub record Contents : Type 0 where
@@ -22,6 +22,7 @@ pub record Contents : Type 0 where
   pub size : ℕ → ℕ
   pub maxchunks : ℕ
   pub count : ℕ → ℕ
+  -- the chunk first, as META2 is grouped, then the task
   pub written : ℕ → ℕ → ℕ
 
 -- META1 of an image holds these contents, and they keep its rules
@@ -48,7 +49,7 @@ pub record HasMeta1 (image : List ℕ) (c : Contents) : Type 0 where
   pub maxchunks-range : c .maxchunks ≤ maxBlocks
   pub start-is : Meta1.startField (c .big) image (c .n) ≡ pos (meta2Start (c .blocksize) (c .n) (c .size) (c .maxchunks))
 
--- META2's own part of the image, and the value of chunk k of task i in it
+-- META2's own part of the image, and the value of chunk k + 1 of task i + 1 in it
 abbrev pub partOf : List ℕ → Contents → List ℕ
 partOf image c = Meta2.meta2Part image (meta2Start (c .blocksize) (c .n) (c .size) (c .maxchunks)) (c .n) (c .maxchunks)
 

@@ -1,12 +1,10 @@
-pub mod Refusals
-pub mod Meta2
 pub mod Records
-pub mod Meta1
 pub mod Format
 pub mod Load
 pub mod Open
 pub mod Write
 pub mod Close
 pub mod Reads
+pub mod Demands
 pub mod Tally
 pub mod Numbers

@@ -9,13 +9,15 @@ use lib.ListN.{length, getD, take, replicate}
 use Rattle.endian.specs.Below.{listBelow}
 use Rattle.endian.specs.Signed.{signedAt}
 use Rattle.layout.specs.Areas.{meta1End, dataStart, extended, globalskip, chunkStart, imageNeeded}
-use Rattle.container.specs.Meta1.{formatField, maxchunksField, startField}
-use Rattle.container.specs.Records.{entry, orderOf}
+use Rattle.endian.specs.Splice.{splice}
+use Rattle.meta.specs.Meta1.{formatField, maxchunksField, startField, meta1}
+use Rattle.meta.specs.Heads.{entry, filled, orderOf, headOf}
 use Rattle.container.specs.Open.{Opening, openRefusal, openSession, openAnswer, openImage, openTable}
 use Rattle.container.specs.Write.{State, Request, target, writeRefusal, afterWrite}
 use Rattle.container.specs.Close.{closeAnswer, closeImage}
+use Rattle.container.specs.Records.{loadedOf}
 use Rattle.container.specs.Load.{loadRefusal, loadAnswer, loadTable}
-use Rattle.container.specs.Reads.{Container, chunkRefusal, chunkPart, totalAnswer, readRefusal, readAnswer, readOutput}
+use Rattle.container.specs.Reads.{Container, containerOf, chunkRefusal, chunkPart, totalAnswer, readRefusal, readAnswer, readOutput}
 use Rattle.container.specs.Tally.{Plan, planOf, Ask, Book, offset, blank, fateIn, toldAll, answers, held}
 
 -- a row: what the rules compute, and what the paper says
@@ -237,6 +239,27 @@ reads c =
     ∷ readOutput c 1 499 (replicate 4 9)
     ++ (readRefusal c 1 502 ∷ readRefusal c 3 0 ∷ []))
 
+-- ---- the numbers of loading: a container of one task that wrote nothing, whole, cut short, and with one byte changed
+abbrev pub smallest : List ℕ
+smallest =
+    meta1 (headOf 0 (pos 1) (pos 7) 512 1 (λ i. 0) (λ i. 1)) [] 0 1536 ++ (replicate 432 0 ++ replicate 8 0)
+
+abbrev pub cutTo : ℕ → ℕ
+cutTo bytes = loadRefusal (take bytes smallest) 0
+
+abbrev pub changed : ℕ → ℕ → ℕ
+changed at byte = loadRefusal (splice smallest at (byte ∷ [])) 0
+
+-- ---- the numbers of the reads, of a record with one task and one chunk that holds 10 bytes, in an image of so many bytes
+abbrev pub chunkOf : ℕ → ℕ → List ℤ → ℕ → ℕ
+chunkOf closed bytes table task =
+    chunkRefusal
+    (containerOf
+    (loadedOf (headOf 0 (pos 1) (pos 7) 512 1 (λ i. 0) (λ i. 10)) (filled 1 (λ i. 1)) 1 closed)
+    (replicate bytes 0)
+    table)
+    task 1
+
 unfoldable pub otherTable : List Row
 otherTable =
     row (map withBlocksize (512 ∷ 4_194_304 ∷ 256 ∷ 768 ∷ 8_388_608 ∷ [])) (0 ∷ 0 ∷ 5 ∷ 5 ∷ 5 ∷ [])
@@ -251,6 +274,35 @@ otherTable =
       computed = line (twoImage 0 4656);
       stated = pos 0 ∷ pos 2 ∷ pos 2 ∷ pos 501 ∷ pos 0 ∷ pos 1 ∷ pos 7 ∷ pos 3 ∷ [];
     }
-    ∷ row (loadRefusal (twoImage 1 4655) 4 ∷ []) (12 ∷ [])
+    ∷ row (loadRefusal (twoImage 1 4655) 4 ∷ loadRefusal (twoImage 0 4656) 3 ∷ []) (12 ∷ 18 ∷ [])
+    -- the other numbers of loading, by cuts and by single bytes
+    ∷ row (map cutTo (1544 ∷ 3 ∷ 7 ∷ 1075 ∷ 1103 ∷ 1543 ∷ [])) (0 ∷ 1 ∷ 2 ∷ 3 ∷ 3 ∷ 12 ∷ [])
+    ∷ row
+    (changed 3 111
+    ∷ changed 4 0
+    ∷ changed 16 4
+    ∷ changed 21 3
+    ∷ changed 24 0
+    ∷ changed 28 2
+    ∷ changed 32 1
+    ∷ changed 1083 128
+    ∷ changed 1084 0
+    ∷ changed 1097 0
+    ∷ changed 1092 33
+    ∷ changed 1097 7
+    ∷ changed 1536 1
+    ∷ [])
+    (1 ∷ 2 ∷ 4 ∷ 5 ∷ 6 ∷ 7 ∷ 7 ∷ 8 ∷ 9 ∷ 10 ∷ 11 ∷ 12 ∷ 13 ∷ [])
+    -- 17, 18, 19 and 14, alone and before the ones that follow
+    ∷ row
+    (chunkOf 0 2064 (pos 10 ∷ []) 1
+    ∷ chunkOf 1 2063 (pos 11 ∷ []) 2
+    ∷ chunkOf 0 2063 (pos 11 ∷ []) 2
+    ∷ chunkOf 0 2064 [] 2
+    ∷ chunkOf 0 2064 (pos 11 ∷ []) 2
+    ∷ chunkOf 0 2064 (negsuc 0 ∷ []) 1
+    ∷ chunkOf 0 2064 (pos 0 ∷ []) 2
+    ∷ [])
+    (0 ∷ 17 ∷ 18 ∷ 18 ∷ 19 ∷ 19 ∷ 14 ∷ [])
     ∷ row (reads (loadedFrom (twoImage 1 4656))) (3 ∷ 22 ∷ 2 ∷ 2 ∷ 3 ∷ 9 ∷ 9 ∷ 23 ∷ 14 ∷ [])
     ∷ []

@@ -8,13 +8,14 @@ use lib.ListN.{length, replicate}
 use Rattle.endian.specs.Splice.{splice}
 use Rattle.layout.specs.Limits.{maxTasks, blocksizeRule, tasksRule, ranksRule, sizesRule, plannedRule}
 use Rattle.layout.specs.Areas.{meta1End, dataStart}
-use Rattle.container.specs.declared.record.Head.{Head}
+use Rattle.meta.specs.declared.head.Head.{Head}
 use Rattle.container.specs.declared.record.Session.{Session}
 use Rattle.container.specs.declared.record.Written.{Written}
-use Rattle.container.specs.Refusals.{Test, test, firstFailing}
-use Rattle.container.specs.Meta1.{prefixLength, meta1}
-use Rattle.container.specs.Meta2.{unused}
-use Rattle.container.specs.Records.{entry, isOrder, tooShort, headOf, sessionOf, noSession}
+use Rattle.meta.specs.Refusals.{Test, test, firstFailing}
+use Rattle.meta.specs.Meta1.{prefixLength, meta1}
+use Rattle.meta.specs.Meta2.{unused}
+use Rattle.meta.specs.Heads.{entry, isOrder, tooShort, headOf}
+use Rattle.container.specs.Records.{sessionOf, noSession}
 
 -- what opening is given beside the image and the table
 pub record Opening : Type 0 where

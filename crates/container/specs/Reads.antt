@@ -11,9 +11,10 @@ use Rattle.endian.specs.Signed.{within, natural}
 use Rattle.endian.specs.Splice.{splice}
 use Rattle.container.specs.declared.record.Loaded.{Loaded}
 use Rattle.container.specs.declared.record.Counted.{Counted}
-use Rattle.container.specs.Refusals.{Test, test, firstFailing}
-use Rattle.container.specs.Meta2.{valueIndex}
-use Rattle.container.specs.Records.{entry, cell, startOf, loadedSound, recordTests, isTask}
+use Rattle.meta.specs.Refusals.{Test, test, firstFailing}
+use Rattle.meta.specs.Meta2.{valueIndex}
+use Rattle.meta.specs.Heads.{entry, cell, startOf}
+use Rattle.container.specs.Records.{loadedSound, recordTests, isTask}
 
 -- a loaded record with its image and its table
 pub record Container : Type 0 where
@@ -21,14 +22,20 @@ pub record Container : Type 0 where
   pub image : List ℕ
   pub table : List ℤ
 
+abbrev pub containerOf : Loaded → List ℕ → List ℤ → Container
+containerOf loaded image table = record { loaded = loaded; image = image; table = table }
+
+-- "17, 18, 19"
+unfoldable pub loadedTests : Container → List Test
+loadedTests c =
+    recordTests (c .loaded .closed) (loadedSound (c .loaded)) (c .loaded .head) (c .loaded .maxchunks) (c .loaded .counts) (c .image)
+    (c .table)
+
 -- the task is counted from 1
 module _ (c : Container) (task : ℕ) where
   -- "17, 18, 19, 14"
   unfoldable pub readTests : List Test
-  readTests =
-      recordTests (c .loaded .closed) (loadedSound (c .loaded)) (c .loaded .head) (c .loaded .maxchunks) (c .loaded .counts)
-      (c .image) (c .table)
-      ++ (test 14 (not (isTask (c .loaded .head .n) task)) ∷ [])
+  readTests = loadedTests c ++ (test 14 (not (isTask (c .loaded .head .n) task)) ∷ [])
 
   unfoldable pub used : ℕ
   used = entry (c .loaded .counts) (task - 1)

@@ -7,7 +7,7 @@ use lib.Dec.{ltb, leb, eqb}
 use lib.IntN.{pos}
 use Rattle.endian.specs.Signed.{within}
 use Rattle.container.specs.declared.record.Session.{Session}
-use Rattle.container.specs.Records.{holds, startOf}
+use Rattle.meta.specs.Heads.{holds, startOf}
 
 -- "The tally is fed n, K, each task's c and chunk starts": chunk k of task t starts at `start t k`, both counted from 1
 pub record Plan : Type 0 where

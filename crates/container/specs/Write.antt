@@ -10,9 +10,10 @@ use Rattle.endian.specs.Signed.{natural}
 use Rattle.endian.specs.Splice.{splice}
 use Rattle.container.specs.declared.record.Session.{Session}
 use Rattle.container.specs.declared.record.Written.{Written}
-use Rattle.container.specs.Refusals.{Test, test, firstFailing}
-use Rattle.container.specs.Meta2.{valueIndex}
-use Rattle.container.specs.Records.{entry, cell, holds, startOf, sessionSound, recordTests, isTask, withCount}
+use Rattle.meta.specs.Refusals.{Test, test, firstFailing}
+use Rattle.meta.specs.Meta2.{valueIndex}
+use Rattle.meta.specs.Heads.{entry, cell, holds, startOf}
+use Rattle.container.specs.Records.{sessionSound, recordTests, isTask, withCount}
 
 pub record State : Type 0 where
   pub session : Session

@@ -1,4 +1,11 @@
-// One container of the SIONlib file format over memory that the caller lends: its two records, what its entries answer, and the
-// numbers of its refusals.
+// One container of the SIONlib file format over memory that the caller lends: its records, loading, and the reads.
+mod loading;
+mod reads;
 pub mod record;
-pub mod refusal;
+mod sound;
+
+pub use loading::load;
+pub use reads::chunk;
+pub use reads::chunk_refusal;
+pub use reads::read;
+pub use reads::total;

@@ -10,7 +10,7 @@ use lib.Arith.{digits-lt, digits-div, digits-mod, lt-one}
 use lib.Dec.{lit<}
 use lib.ListN.{length, take, drop, getD, length-reverse, length-drop}
 use lib.Seq.{length-take-le, drop-cons, getD-drop}
-use Rattle.endian.specs.Below.{listBelow}
+use Rattle.endian.specs.Below.{joinBelow, listBelow}
 use Rattle.endian.specs.Number.{little, number, lowest, digits, numberAt}
 use Rattle.endian.specs.Splice.{splice}
 use Rattle.endian.proofs.Below.{part-list, join-cong}
@@ -100,6 +100,13 @@ numberAt-bytes order n xs at fits same e =
     ∙ join-cong _ _ n (λ i l. ap (λ (k : ℕ). getD xs k 0 ∷ []) (suc-add at i ∙ sym (add-suc at i))) in
     let cons : drop at xs ≡ getD xs at 0 ∷ drop (suc at) xs = drop-cons xs at 0 (omega arith) in
     rw (same, cons, rest) e
+
+-- four elements are the number 1 in one order at most
+pub one-order : (xs : List ℕ) (at : ℕ) → at + 4 ≤ length xs → numberAt true 4 xs at ≡ 1 → numberAt false 4 xs at ≡ 1 → ⊥
+unfolding joinBelow
+one-order xs at fits t f =
+    let e = part-list 4 xs at 0 fits in
+    omega (arith, rw e at t, rw e at f)
 
 -- a number that was stored is read back
 pub read-back : (big : Bool) (w v : ℕ) (xs : List ℕ) (at : ℕ) → at + w ≤ length xs → v < 256 ^ w

@@ -1,10 +1,10 @@
 -- Laws of two's complement, each once for every width: there and back, bounds, a range test, and what is read where it was stored.
 -- Assumes nothing.
 use mathlib.Core.Path.{_≡_, refl, sym, ap, _∙_}
-use mathlib.Core.Bool.{Bool, true, false, _&&_, and-false}
+use mathlib.Core.Bool.{Bool, true, false, cond, _&&_, and-false, false≢true}
 use mathlib.Core.List.{List}
 use Prim.Native.Nat.{ℕ, zero, suc, _+_, _-_, _*_, _^_, _<_, _≤_}
-use native.Mathlib.Nat.{pow-suc, mul-suc}
+use native.Mathlib.Nat.{pow-suc, mul-suc, le-antisymm}
 use native.Mathlib.Omega.{arith}
 use lib.Arith.{comp-comp, comp-ge}
 use lib.Dec.{ltb, leb}
@@ -27,6 +27,13 @@ signed-high h n l = rw (le-ltb n (2 ^ h) l)
 
 pub natural-signed : (h n : ℕ) → n < 2 ^ h → natural (signed h n) ≡ n
 natural-signed h n l = ap natural (signed-low h n l)
+
+pub signed-pos : (h n m : ℕ) → signed h n ≡ pos m → n ≡ m
+signed-pos h n m e = go (ltb n (2 ^ h)) e
+  where
+    go : (b : Bool) → cond b (pos n) (negsuc (2 ^ suc h - suc n)) ≡ pos m → n ≡ m
+    go true e = cc
+    go false e = cc
 
 pub signed-bitsOf : (h : ℕ) (z : ℤ) → mag z < 2 ^ h → signed h (bitsOf h z) ≡ z
 signed-bitsOf h (pos n) l = signed-low h n l
@@ -51,6 +58,21 @@ within-facts lo hi n e = (leb-true lo n (and-left (leb lo n) (leb n hi) e), leb-
 
 pub within-holds : (lo hi n : ℕ) → lo ≤ n → n ≤ hi → within lo hi (pos n) ≡ true
 within-holds lo hi n l h = rw (le-leb lo n l) (le-leb n hi h)
+
+pub within-over : (lo hi n : ℕ) → hi < n → within lo hi (pos n) ≡ false
+within-over lo hi n l = rw (lt-leb n hi l) (and-false (leb lo n))
+
+-- an integer that passes a range test is the number that it stands for, within the range
+abbrev pub InRange : ℕ → ℕ → ℤ → Type 0
+InRange lo hi z = (z ≡ pos (natural z)) × (lo ≤ natural z) × (natural z ≤ hi)
+
+pub within-natural : (lo hi : ℕ) (z : ℤ) → within lo hi z ≡ true → InRange lo hi z
+within-natural lo hi (pos n) e = let f = within-facts lo hi n e in (refl, f .0, f .1)
+within-natural lo hi (negsuc n) e = absurd (false≢true e)
+
+-- a range of one number
+pub within-one : (v : ℕ) (z : ℤ) → within v v z ≡ true → z ≡ pos v
+within-one v z e = let f = within-natural v v z e in f .0 ∙ ap pos (le-antisymm (f .2) (f .1))
 
 -- an unsigned reading passes a range test exactly when the signed one does
 pub within-signed : (lo hi h n : ℕ) → hi < 2 ^ h → within lo hi (signed h n) ≡ (leb lo n && leb n hi)

@@ -1,12 +1,16 @@
--- Laws of a splice: what it leaves at its place, before it and after it, and splices of a part and next to each other. Assumes nothing.
-use mathlib.Core.Path.{_≡_, sym, ap, _∙_}
+-- Laws of a splice: what it leaves at its place, before it and after it, splices of a part and next to each other, and stores one
+-- after the other. Assumes nothing.
+use mathlib.Core.Path.{_≡_, refl, sym, ap, _∙_}
 use mathlib.Core.List.{List, [], _∷_, _++_, append-assoc}
 use mathlib.Core.Logic.{_⊎_, ⊎-elim}
 use Prim.Native.Nat.{ℕ, zero, suc, _+_, _-_, _<_, _≤_}
 use native.Mathlib.Nat.{add-zero, zero-add, suc-add}
+use native.Mathlib.Numerals.{add-one}
 use native.Mathlib.Omega.{arith}
-use lib.ListN.{length, take, drop, getD, length-append, length-drop, take-append-drop}
-use lib.Seq.{length-take-le, take-nil, take-take, take-at, take-append-seam, drop-at, drop-drop, drop-append-le, getD-take, getD-drop}
+use lib.ListN.{length, take, drop, getD, set, length-append, length-drop, take-append-drop}
+use lib.Seq.{length-take-le, take-nil, take-take, take-at, take-append-seam, drop-at, drop-drop, drop-append-le, getD-take, getD-drop, set-split}
+use Rattle.endian.specs.Below.{joinBelow, listBelow}
+use Rattle.endian.proofs.Below.{join-more, length-list}
 use Rattle.endian.specs.Splice.{splice}
 
 module _ {ℓ} {A : Type ℓ} where
@@ -92,3 +96,27 @@ module _ {ℓ} {A : Type ℓ} where
       splice-after xs at us fits (p + length vs) (omega arith) in
       let e : p + length vs ≡ at + length (us ++ vs) = rw length-append (omega arith) in
       rw (before, after, e) (simp append-assoc)
+
+  -- a store of one element is a splice of it
+  set-splice : (xs : List A) (i : ℕ) (v : A) → i < length xs → set xs i v ≡ splice xs i (v ∷ [])
+  unfolding splice
+  set-splice xs i v l = rw add-one (set-split xs i v l)
+
+  -- the store of the next element makes a splice longer
+  splice-set : (xs : List A) (at : ℕ) (us : List A) (v : A) → at + length us < length xs
+      → set (splice xs at us) (at + length us) v ≡ splice xs at (us ++ (v ∷ []))
+  splice-set xs at us v l =
+      set-splice (splice xs at us) (at + length us) v (rw (length-splice xs at us (omega arith)) l)
+      ∙ splice-next xs at us (v ∷ []) (omega arith)
+
+  -- a splice of the first i of numbered elements: of none, and after the store of the next
+  pub splice-none : (xs : List A) (f : ℕ → A) → xs ≡ splice xs 0 (listBelow 0 f)
+  unfolding splice joinBelow
+  splice-none xs f = refl
+
+  pub splice-more : (xs : List A) (f : ℕ → A) (i : ℕ) → i < length xs
+      → set (splice xs 0 (listBelow i f)) i (f i) ≡ splice xs 0 (listBelow (i + 1) f)
+  splice-more xs f i l =
+      let e : 0 + length (listBelow i f) ≡ i = zero-add (length (listBelow i f)) ∙ length-list f i in
+      rw (join-more (λ j. f j ∷ []) i)
+      (rw e at (splice-set xs 0 (listBelow i f) (f i) (rw e l)))

@@ -9,7 +9,7 @@ use native.Mathlib.Omega.{arith}
 use lib.Arith.{digits-div, digits-mod}
 use lib.ListN.{getD}
 use Rattle.endian.proofs.Below.{sum-none, sum-more, sum-step, sum-cong, sum-multiple}
-use Rattle.layout.specs.Limits.{maxBlocks, Sound}
+use Rattle.layout.specs.Limits.{maxSize, maxBlocks, Sound}
 use Rattle.layout.specs.Areas.{meta1End, dataStart, extended, capacity, extendedBefore, globalskip, chunkStart}
 use Rattle.layout.specs.Areas.{meta2Start, meta2Length, meta2End}
 use Rattle.layout.proofs.Bounds.{dataStart-small, rounds-small, meta2Length-small}
@@ -23,6 +23,11 @@ meta1-before-data b n h = roundUp-ge b (meta1End n) h
 pub capacity-fits : (b c : ℕ) → 0 < b → capacity b c ≤ extended b c
 unfolding capacity extended
 capacity-fits b c h = roundUp-ge b c h
+
+-- no chunk holds more than the greatest size
+pub capacity-small : (b c : ℕ) → c ≤ maxSize → capacity b c ≤ maxSize
+unfolding capacity
+capacity-small b c l = l
 
 -- the extended sizes before the first task, and before the next one
 pub extendedBefore-none : (b : ℕ) (size : ℕ → ℕ) → extendedBefore b size 0 ≡ 0

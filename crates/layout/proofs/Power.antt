@@ -62,6 +62,10 @@ pub power-holds : (j : ℕ) → j < wordBits → powerOfTwo (2 ^ j) ≡ true
 unfolding powerOfTwo
 power-holds j l = any-of (λ i. eqb (2 ^ j) (2 ^ i)) wordBits j l (eq-eqb (2 ^ j) (2 ^ j) refl)
 
+-- a power of two that is no greater than the greatest blocksize
+pub power-within : (b j : ℕ) → b ≡ 2 ^ j → b ≤ maxBlocksize → powerOfTwo b ≡ true
+power-within b j e l = rw e (power-holds j (lt-of-not-le (λ (g : wordBits ≤ j). omega (arith, pow-mono g))))
+
 -- a count of ones equal to one proves the power of two, and no other count does
 pub count-decides : (b : ℕ) → b < 2 ^ wordBits → eqb (ones b) 1 ≡ powerOfTwo b
 count-decides b h = go (powerOfTwo b) refl

@@ -1,4 +1,4 @@
-// Where the parts of a container lie: the rule for blocksize, the rounding by it, and the offsets of META1's end, each chunk and META2.
+// Where the parts of a container lie: the rounding by blocksize, and the offsets of META1's end, each chunk and META2.
 // Every function asks for numbers within document 01's limits, under which no sum here can overflow.
 ghost use mathlib.Core.Path.{_≡_};
 ghost use mathlib.Core.Bool.{true};
@@ -6,25 +6,9 @@ ghost use Prim.Native.Nat.{_+_, _≤_};
 ghost use lib.IntN.{pos};
 ghost use lib.ListN.{getD};
 ghost use Rattle.layout.specs.Limits.{blocksizeRule, maxTasks, maxSize, maxBlocks, Sound};
-ghost use Rattle.layout.specs.Areas.{meta1End, roundUp, dataStart, extended, extendedBefore, globalskip, chunkStart, meta2Start, meta2End};
+ghost use Rattle.layout.specs.Areas.{meta1End, roundUp, dataStart, extended, capacity, extendedBefore, globalskip, chunkStart, meta2Start, meta2Length, meta2End};
 
-pub const MAX_TASKS: usize = 64;
-
-pub const MIN_BLOCKSIZE: u32 = 512;
-
-pub const MAX_BLOCKSIZE: u32 = 4_194_304;
-
-pub fn blocksize_ok(blocksize: u32) -> bool
-    ensures { λ r. ⌜ r ≡ blocksizeRule (pos blocksize) ⌝ }
-{
-    if blocksize < MIN_BLOCKSIZE {
-        return false;
-    }
-    if MAX_BLOCKSIZE < blocksize {
-        return false;
-    }
-    u32::count_ones(blocksize) == 1
-}
+pub mod limit;
 
 // The least multiple of blocksize that is at least x.
 pub fn round_up(x: u64, blocksize: u32) -> u64
@@ -56,6 +40,14 @@ pub fn extended_size(size: u64, blocksize: u32) -> u64
     ensures { λ r. ⌜ r ≡ extended blocksize size ⌝ }
 {
     round_up(size, blocksize)
+}
+
+// What a chunk holds of a task with this requested size.
+pub fn chunk_holds(size: u64, blocksize: u32) -> u64
+    requires { ⌜ (blocksizeRule (pos blocksize) ≡ true) × (size ≤ maxSize) ⌝ }
+    ensures { λ r. ⌜ r ≡ capacity blocksize size ⌝ }
+{
+    size
 }
 
 // The extended sizes of the first i tasks, added up.
@@ -98,10 +90,17 @@ pub fn meta2_start(sizes: &[u64], n: u32, blocksize: u32, maxchunks: u32) -> u64
     data_start(n, blocksize) + maxchunks as u64 * global_skip(sizes, n, blocksize)
 }
 
+pub fn meta2_length(n: u32, maxchunks: u32) -> u64
+    requires { ⌜ (n ≤ maxTasks) × (maxchunks ≤ maxBlocks) ⌝ }
+    ensures { λ r. ⌜ r ≡ meta2Length n maxchunks ⌝ }
+{
+    8 * n as u64 * (1 + maxchunks as u64)
+}
+
 // Where META2 ends. For as many chunks as are planned, it is the length of the image that a session needs.
 pub fn meta2_end(sizes: &[u64], n: u32, blocksize: u32, maxchunks: u32) -> u64
     requires { ⌜ Sound blocksize n (now sizes) × (maxchunks ≤ maxBlocks) ⌝ }
     ensures { λ r. ⌜ r ≡ meta2End blocksize n (λ j. getD (now (sizes .entry)) j 0) maxchunks ⌝ }
 {
-    meta2_start(sizes, n, blocksize, maxchunks) + 8 * n as u64 * (1 + maxchunks as u64)
+    meta2_start(sizes, n, blocksize, maxchunks) + meta2_length(n, maxchunks)
 }

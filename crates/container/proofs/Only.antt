@@ -1,0 +1,151 @@
+-- What the loader accepts is a container: of an image whose tests pass, what its fields say keeps each rule. Assumes nothing.
+use mathlib.Core.Path.{_≡_, refl, sym, ap, _∙_}
+use mathlib.Core.Bool.{true}
+use mathlib.Core.List.{List}
+use Prim.Native.Nat.{ℕ, _*_, _≤_, _<_}
+use native.Mathlib.Omega.{arith}
+use lib.IntN.{pos}
+use lib.ListN.{length}
+use Rattle.endian.specs.Signed.{natural}
+use Rattle.endian.proofs.Signed.{InRange, within-natural}
+use Rattle.layout.specs.Limits.{maxTasks, maxSize, maxRank, maxBlocks, blocksizeRule, tasksRule, maxchunksRule}
+use Rattle.layout.specs.Areas.{meta1End, capacity, meta2End}
+use Rattle.layout.proofs.Power.{blocksize-facts, power-of-two}
+use Rattle.meta.specs.Meta1
+use Rattle.meta.specs.Meta2
+use Rattle.meta.specs.Heads.{entry, isBig, holds, headOf, endAt}
+use Rattle.meta.specs.Judge.{bigIn, tasksIn, maxchunksIn, headIn, countsIn}
+use Rattle.meta.proofs.Rules.{blocksize-natural, ranks-within, ranks-differ, sizes-within, counts-within, counts-greatest, values-used, values-unused}
+use Rattle.meta.proofs.Filled.{entry-filled}
+use Rattle.meta.proofs.Heads.{isBig-order, holds-made, meta2At-made, endAt-made}
+use Rattle.meta.proofs.Accepting.{Meta1Holds, marked-is, Meta2Holds}
+use Rattle.container.specs.Format.{Contents, HasMeta1, HasMeta2, IsContainer, partOf}
+use Rattle.container.specs.Load.{partIn, loadRefusal}
+use Rattle.container.proofs.LoadTests.{load-holds}
+
+-- what the fields of an image say
+abbrev contentsIn : List ℕ → Contents
+contentsIn image = record {
+  big = bigIn image;
+  version = Meta1.versionField (bigIn image) image;
+  patch = Meta1.patchField (bigIn image) image;
+  blocksize = natural (Meta1.blocksizeField (bigIn image) image);
+  n = tasksIn image;
+  rank = λ i. natural (Meta1.rankField (bigIn image) image i);
+  size = λ i. natural (Meta1.sizeField (bigIn image) image (tasksIn image) i);
+  maxchunks = maxchunksIn image;
+  count = λ i. natural (Meta2.countField (bigIn image) (partIn image) i);
+  written =
+      λ k i. natural (Meta2.valueField (bigIn image) (partIn image) (tasksIn image) (Meta2.valueIndex (tasksIn image) k i));
+}
+
+module _ (image : List ℕ) (first : Meta1Holds image (length image)) where
+  tasks-in : InRange 1 maxTasks (Meta1.tasksField (bigIn image) image)
+  unfolding tasksRule
+  tasks-in = within-natural 1 maxTasks _ (first .tasks)
+
+  few : tasksIn image ≤ maxTasks
+  unfolding tasksIn
+  few = tasks-in .2
+
+  maxchunks-in : InRange 0 maxBlocks (Meta1.maxchunksField (bigIn image) image (tasksIn image))
+  unfolding maxchunksRule
+  maxchunks-in = within-natural 0 maxBlocks _ (first .maxchunks)
+
+  rank-in : (i : ℕ) → i < tasksIn image → InRange 0 maxRank (Meta1.rankField (bigIn image) image i)
+  rank-in i l = within-natural 0 maxRank _ (ranks-within (tasksIn image) (Meta1.rankField (bigIn image) image) (first .ranks) i l)
+
+  size-in : (i : ℕ) → i < tasksIn image → InRange 1 maxSize (Meta1.sizeField (bigIn image) image (tasksIn image) i)
+  size-in i l =
+      within-natural 1 maxSize _ (sizes-within (tasksIn image) (Meta1.sizeField (bigIn image) image (tasksIn image)) (first .sizes) i l)
+
+  has-meta1 : HasMeta1 image (contentsIn image)
+  unfolding meta1End tasksIn maxchunksIn headIn
+  has-meta1 =
+      let b = blocksize-natural (Meta1.blocksizeField (bigIn image) image) (first .blocksize) in
+      let rule : blocksizeRule (pos (contentsIn image .blocksize)) ≡ true = rw (b .0) at (first .blocksize) in
+      record {
+        long = first .long;
+        marked = marked-is image (omega (arith, first .long)) (first .marked);
+        order-is = first .order-is;
+        version-is = refl;
+        patch-is = refl;
+        format-is = first .format-is;
+        blocksize-is = b .0;
+        blocksize-power = power-of-two _ (blocksize-facts _ rule .2);
+        blocksize-range = (b .1, b .2);
+        tasks-are = tasks-in .0;
+        tasks-range = (tasks-in .1, tasks-in .2);
+        files-are = first .files-are;
+        file-number-is = first .file-number-is;
+        ranks-are = λ i l. rank-in i l .0;
+        ranks-range = λ i l. rank-in i l .2;
+        ranks-differ =
+            λ i j l h same.
+            ranks-differ (tasksIn image) (Meta1.rankField (bigIn image) image) (first .ranks) i j l h
+            (rank-in i l .0 ∙ ap pos same ∙ sym (rank-in j h .0));
+        sizes-are = λ i l. size-in i l .0;
+        sizes-range = λ i l. (size-in i l .1, size-in i l .2);
+        maxchunks-is = maxchunks-in .0;
+        maxchunks-range = maxchunks-in .2;
+        start-is = first .start-is ∙ ap pos (meta2At-made _ _ _ _ _ _ _ few (maxchunksIn image));
+      }
+
+  module _ (second : Meta2Holds (headIn image) (maxchunksIn image) (partIn image)) where
+    end-in : endAt (headIn image) (maxchunksIn image)
+        ≡ meta2End (contentsIn image .blocksize) (tasksIn image) (contentsIn image .size) (maxchunksIn image)
+    unfolding headIn
+    end-in = endAt-made _ _ _ _ _ _ _ few (maxchunksIn image)
+
+    part-in : partOf image (contentsIn image) ≡ partIn image
+    unfolding partIn headIn
+    part-in =
+        ap (λ (s : ℕ). Meta2.meta2Part image s (tasksIn image) (maxchunksIn image))
+        (sym (meta2At-made _ _ _ _ _ _ _ few (maxchunksIn image)))
+
+    holds-in : (i : ℕ) → i < tasksIn image → holds (headIn image) i ≡ capacity (contentsIn image .blocksize) (contentsIn image .size i)
+    unfolding headIn
+    holds-in i l = holds-made _ _ _ _ _ _ _ few i l
+
+    entry-in : (i : ℕ) → i < tasksIn image
+        → entry (countsIn (headIn image) (maxchunksIn image) (partIn image)) i ≡ contentsIn image .count i
+    unfolding countsIn headIn headOf
+    entry-in i l =
+        entry-filled (tasksIn image) (λ i. natural (Meta2.countField (isBig (headIn image)) (partIn image) i)) i few l
+        ∙ rw (isBig-order (bigIn image))
+
+    counts-in : Meta2.countsRule (tasksIn image) (maxchunksIn image) (Meta2.countField (bigIn image) (partIn image)) ≡ true
+    unfolding headIn headOf
+    counts-in = rw (isBig-order (bigIn image)) at (second .counts)
+
+    count-in : (i : ℕ) → i < tasksIn image → InRange 0 (maxchunksIn image) (Meta2.countField (bigIn image) (partIn image) i)
+    count-in i l = within-natural 0 _ _ (counts-within _ _ (Meta2.countField (bigIn image) (partIn image)) counts-in i l)
+
+    values-in : Meta2.valuesRule (tasksIn image) (maxchunksIn image) (holds (headIn image))
+        (entry (countsIn (headIn image) (maxchunksIn image) (partIn image)))
+        (Meta2.valueField (bigIn image) (partIn image) (tasksIn image)) ≡ true
+    unfolding headIn headOf
+    values-in = rw (isBig-order (bigIn image)) at (second .values)
+
+    used-in : (i k : ℕ) → i < tasksIn image → k < contentsIn image .count i
+        → InRange 0 (holds (headIn image) i)
+        (Meta2.valueField (bigIn image) (partIn image) (tasksIn image) (Meta2.valueIndex (tasksIn image) k i))
+    used-in i k l u =
+        within-natural 0 _ _ (values-used _ _ _ _ _ values-in i k l (omega (arith, count-in i l .2)) (rw (entry-in i l) u))
+
+    has-meta2 : HasMeta2 image (contentsIn image)
+    unfolding tasksIn
+    has-meta2 = record {
+      fits = rw end-in at (first .fits);
+      counts-are = λ i l. rw part-in (count-in i l .0);
+      counts-range = λ i l. count-in i l .2;
+      greatest = counts-greatest _ _ (Meta2.countField (bigIn image) (partIn image)) counts-in (tasks-in .1);
+      used-first = λ i k l u. rw part-in (used-in i k l u .0);
+      used-fit = λ i k l u. rw (holds-in i l) at (used-in i k l u .2);
+      others-unused = λ i k l u h. rw part-in (values-unused _ _ _ _ _ values-in i k l h (rw (entry-in i l) u));
+    }
+
+pub only : (image : List ℕ) (cells : ℕ) → loadRefusal image cells ≡ 0 → (c : IsContainer image) × (c .says .n * c .says .maxchunks ≤ cells)
+only image cells e =
+    let h = load-holds image cells e in
+    (record { says = contentsIn image; first = has-meta1 image (h .first); second = has-meta2 image (h .first) (h .second) }, h .room)

@@ -1,0 +1,187 @@
+-- What is read of a container, with the record and the table that loading handed back, is what the container says, and what is
+-- refused gets its own number. Assumes nothing.
+use mathlib.Core.Path.{_≡_, refl, sym, ap, _∙_}
+use mathlib.Core.Bool.{true, false, and-false}
+use mathlib.Core.List.{List}
+use mathlib.Core.Logic.{_⊎_, ⊎-elim}
+use Prim.Native.Nat.{ℕ, _+_, _-_, _*_, _≤_, _<_, min}
+use native.Mathlib.Nat.{add-sub-cancel}
+use native.Mathlib.Omega.{arith}
+use borrow.Author.Tests.{lt-ltb, le-ltb, lt-leb}
+use lib.IntN.{ℤ, pos}
+use lib.ListN.{length, take, drop}
+use Rattle.endian.specs.Signed.{within, natural}
+use Rattle.endian.specs.Splice.{splice}
+use Rattle.endian.proofs.Below.{sum-cong, join-cong}
+use Rattle.endian.proofs.Signed.{within-holds}
+use Rattle.meta.specs.Refusals.{firstFailing}
+use Rattle.meta.specs.Meta2.{valueIndex, unused}
+use Rattle.meta.specs.Heads.{entry, cell, filled, headOf, headSound, cellsAgree}
+use Rattle.meta.proofs.Refusals.{first-passes, first-fails, when-accepted}
+use Rattle.meta.proofs.Filled.{length-filled, entry-filled}
+use Rattle.meta.proofs.Heads.{order-sound, startOf-made, endAt-made}
+use Rattle.container.specs.declared.record.Loaded.{Loaded}
+use Rattle.container.specs.Records.{loadedSound, loadedOf}
+use Rattle.container.specs.Format.{Contents, HasMeta1, HasMeta2}
+use Rattle.container.specs.Load.{loadRefusal, loadAnswer, loadTable}
+use Rattle.container.specs.Reads.{Container, containerOf, loadedTests, readTests, used, writtenIn, chunkBytes, chunkRefusal, chunkPart}
+use Rattle.container.specs.Reads.{streamOf, totalOf, totalAnswer, readRefusal, readAnswer, readOutput}
+use Rattle.container.specs.Demands.{bytesSaid, streamSaid, totalSaid, Says, ReadsBack, RefusesBack}
+use Rattle.container.proofs.Every.{headSaid, few, block-kept, tasks-kept, maxchunks-kept, ranks-kept, sizes-kept, counts-kept, values-kept}
+use Rattle.container.proofs.Every.{loaded-is, room, says}
+use Rattle.container.proofs.Refusing.{total-number, read-number}
+use Rattle.container.proofs.Records.{record-passes}
+use Rattle.container.proofs.Readable.{loaded-numbered, read-numbered, readable}
+use Rattle.container.proofs.Stream.{chunk-length, chunk-allowed, counted}
+
+-- a number counted from 1 that is 0 or past the last
+within-none : (n number : ℕ) → (number ≡ 0) ⊎ (n < number) → within 1 n (pos number) ≡ false
+within-none n number none = ⊎-elim (λ e. rw e refl) (λ l. rw (lt-leb number n l, and-false)) none
+
+-- the record as it is made, with any table whose cells say what the container says
+module _ (image : List ℕ) (s : Contents) (one : HasMeta1 image s) (two : HasMeta2 image s) (table : List ℤ)
+    (wide : s .n * s .maxchunks ≤ length table)
+    (used-cells : (i k : ℕ) → i < s .n → k < s .count i → cell table (valueIndex (s .n) k i) ≡ pos (s .written k i))
+    (unused-cells : (i k : ℕ) → i < s .n → s .count i ≤ k → k < s .maxchunks → cell table (valueIndex (s .n) k i) ≡ unused) where
+  abbrev made : Loaded
+  made = loadedOf (headSaid s) (filled (s .n) (s .count)) (s .maxchunks) 0
+
+  abbrev loaded : Container
+  loaded = containerOf made image table
+
+  entry-is : (f : ℕ → ℕ) (i : ℕ) → i < s .n → entry (filled (s .n) f) i ≡ f i
+  entry-is f i l = entry-filled (s .n) f i (few image s one two) l
+
+  listed-is : (f : ℕ → ℕ) (i : ℕ) → i < s .n → pos (entry (filled (s .n) f) i) ≡ pos (f i)
+  listed-is f i l = ap pos (entry-is f i l)
+
+  -- ---- its tests pass
+
+  loaded-sound : loadedSound made ≡ true
+  unfolding loadedSound headSound headOf
+  loaded-sound =
+      rw (
+        order-sound (s .big),
+        block-kept image s one two,
+        tasks-kept image s one two,
+        ranks-kept image s one two _ (listed-is (s .rank)),
+        sizes-kept image s one two _ (listed-is (s .size)),
+        maxchunks-kept image s one two,
+      )
+      (counts-kept image s one two _ (listed-is (s .count)))
+
+  cells-agree : cellsAgree (headSaid s) (s .maxchunks) (filled (s .n) (s .count)) table ≡ true
+  unfolding cellsAgree headOf
+  cells-agree = values-kept image s one two _ _ (entry-is (s .count)) used-cells unused-cells
+
+  loaded-passes : firstFailing (loadedTests loaded) ≡ 0
+  unfolding loadedTests headOf
+  loaded-passes =
+      record-passes 0 (loadedSound made) (headSaid s) (s .maxchunks) (filled (s .n) (s .count)) image table (record {
+        unmarked = refl;
+        sound-is = loaded-sound;
+        image-long = rw (endAt-made _ _ _ _ _ (s .rank) (s .size) (few image s one two) (s .maxchunks)) (two .fits);
+        table-long = wide;
+        agree = cells-agree;
+      })
+
+  module _ (i : ℕ) (l : i < s .n) where
+    passes : firstFailing (readTests loaded (i + 1)) ≡ 0
+    unfolding readTests firstFailing headOf
+    passes =
+        first-passes (loadedTests loaded) _ (loaded-numbered loaded) loaded-passes
+        ∙ rw (within-holds 1 (s .n) (i + 1) (omega arith) (omega arith))
+
+    -- ---- what is read is what the container says
+
+    used-is : used loaded (i + 1) ≡ s .count i
+    unfolding used
+    used-is = rw (add-sub-cancel i 1) (entry-is (s .count) i l)
+
+    written-is : (k : ℕ) → k < s .count i → writtenIn loaded (i + 1) (k + 1) ≡ s .written k i
+    unfolding writtenIn headOf
+    written-is k u = rw (add-sub-cancel i 1, add-sub-cancel k 1) (ap natural (used-cells i k l u))
+
+    bytes-are : (k : ℕ) → k < s .count i → chunkBytes loaded (i + 1) (k + 1) ≡ bytesSaid image s i k
+    unfolding chunkBytes bytesSaid
+    bytes-are k u =
+        rw (written-is k u, startOf-made _ _ _ _ _ (s .rank) (s .size) (few image s one two) (i + 1) (k + 1) (omega arith))
+
+    stream-is : streamOf loaded (i + 1) ≡ streamSaid image s i
+    unfolding streamOf streamSaid
+    stream-is = rw used-is (join-cong _ _ (s .count i) bytes-are)
+
+    total-is : totalOf loaded (i + 1) ≡ totalSaid s i
+    unfolding totalOf totalSaid
+    total-is = rw used-is (sum-cong _ _ (s .count i) written-is)
+
+    chunk-passes : (k : ℕ) → k < s .count i → chunkRefusal loaded (i + 1) (k + 1) ≡ 0
+    chunk-passes k u = chunk-allowed loaded (i + 1) (k + 1) passes (omega arith) (rw used-is (omega arith))
+
+    chunk-whole : (k : ℕ) → k < s .count i → length (bytesSaid image s i k) ≡ s .written k i
+    unfolding headOf
+    chunk-whole k u =
+        let r = readable loaded (i + 1) (length-filled (s .n) (s .size)) passes in
+        ap length (sym (bytes-are k u)) ∙ chunk-length loaded (i + 1) r k (rw used-is u) ∙ written-is k u
+
+    read-passes : (p : ℕ) → p ≤ totalSaid s i → readRefusal loaded (i + 1) p ≡ 0
+    unfolding readRefusal firstFailing
+    read-passes p h =
+        first-passes (readTests loaded (i + 1)) _ (read-numbered loaded (i + 1)) passes
+        ∙ rw (le-ltb (totalOf loaded (i + 1)) p (rw total-is h))
+
+  made-reads : ReadsBack image s loaded
+  unfolding chunkPart totalAnswer readAnswer readOutput
+  made-reads = record {
+    chunks = λ i k l u. chunk-passes i l k u;
+    parts = λ i k l u. when-accepted _ _ _ (chunk-passes i l k u) ∙ bytes-are i l k u;
+    whole = λ i k l u. chunk-whole i l k u;
+    totals = λ i l. when-accepted _ _ _ (passes i l) ∙ ap (counted 0) (total-is i l);
+    copied = λ i p out l h. when-accepted _ _ _ (read-passes i l p h) ∙ ap (λ (t : ℕ). counted 0 (min (length out) (t - p))) (total-is i l);
+    streams = λ i p out l h.
+        when-accepted _ _ _ (read-passes i l p h) ∙ ap (λ (xs : List ℕ). splice out 0 (take (length out) (drop p xs))) (stream-is i l);
+  }
+
+  -- ---- what is refused
+
+  tests-none : (task : ℕ) → (task ≡ 0) ⊎ (s .n < task) → firstFailing (readTests loaded task) ≡ 14
+  unfolding readTests firstFailing headOf
+  tests-none task none =
+      first-passes (loadedTests loaded) _ (loaded-numbered loaded) loaded-passes ∙ rw (within-none (s .n) task none)
+
+  made-refuses : RefusesBack s loaded
+  unfolding chunkRefusal readRefusal firstFailing
+  made-refuses = record {
+    no-task = λ task chunk p out none.
+        let e = tests-none task none in
+        let some : 0 < firstFailing (readTests loaded task) = omega arith in (
+          first-fails (readTests loaded task) _ some ∙ e,
+          total-number loaded task ∙ e,
+          read-number loaded task p out ∙ first-fails (readTests loaded task) _ some ∙ e,
+        );
+    no-chunk = λ i chunk l none.
+        first-passes (readTests loaded (i + 1)) _ (read-numbered loaded (i + 1)) (passes i l)
+        ∙ rw (used-is i l, within-none (s .count i) chunk none);
+    past-total = λ i p out l past.
+        read-number loaded (i + 1) p out
+        ∙ first-passes (readTests loaded (i + 1)) _ (read-numbered loaded (i + 1)) (passes i l)
+        ∙ rw (lt-ltb (totalOf loaded (i + 1)) p (rw (total-is i l) past));
+  }
+
+module _ (image : List ℕ) (s : Contents) (one : HasMeta1 image s) (two : HasMeta2 image s) (table : List ℤ)
+    (e : loadRefusal image (length table) ≡ 0) where
+  said : Says s (loadAnswer image table .loaded) table (loadTable image table)
+  said = says image s one two table e
+
+  wide-enough : s .n * s .maxchunks ≤ length (loadTable image table)
+  wide-enough = rw (said .as-long) (room image s one two table e)
+
+  pub reads-back : ReadsBack image s (containerOf (loadAnswer image table .loaded) image (loadTable image table))
+  reads-back =
+      rw (loaded-is image s one two table e)
+      (made-reads image s one two (loadTable image table) wide-enough (said .used-cells) (said .unused-cells))
+
+  pub refuses-back : RefusesBack s (containerOf (loadAnswer image table .loaded) image (loadTable image table))
+  refuses-back =
+      rw (loaded-is image s one two table e)
+      (made-refuses image s one two (loadTable image table) wide-enough (said .used-cells) (said .unused-cells))

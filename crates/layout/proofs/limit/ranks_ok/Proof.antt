@@ -1,0 +1,25 @@
+-- `layout::limit::ranks_ok` meets its contract. Assumes nothing.
+use mathlib.Core.Path.{sym, _∙_}
+use borrow.Author.Needs.{needs}
+use borrow.Author.Tests.{not-true, not-false}
+use Rattle.layout.specs.Limits.{ranksRule}
+use Rattle.layout.proofs.limit.ranks_ok.Statement.{statement}
+use Rattle.layout.proofs.limit.ranks_ok.Tie as tie
+
+all-within-requires : tie.Need-all-within-requires
+all-within-requires c κs = search needs
+
+returns : tie.Need-returns
+unfolding ranksRule
+returns c = rw (sym (c .before .all-within .ensures) ∙ not-true _ (c .if1 .taken))
+
+all-different-requires : tie.Need-all-different-requires
+all-different-requires c κs = search needs
+
+returns-2 : tie.Need-returns-2
+unfolding ranksRule
+returns-2 c =
+    rw (sym (c .before .before .all-within .ensures) ∙ not-false _ (c .before .if1 .left)) (c .all-different .ensures)
+
+pub ranks-ok-spec : {M : Type 1} → statement M
+ranks-ok-spec = tie.close (tie.spec all-within-requires returns all-different-requires returns-2)

@@ -1,0 +1,69 @@
+-- The whole line that a load's answer gives, what the memory that it is put into holds, and how many tasks an accepted one has at most.
+-- Assumes nothing.
+use mathlib.Core.Path.{_≡_, sym, ap, ap₂, _∙_}
+use mathlib.Core.Bool.{Bool, cond}
+use mathlib.Core.List.{List, [], _∷_, _++_, append-assoc, append-nil}
+use Prim.Native.Nat.{ℕ, _≤_}
+use native.Mathlib.Nat.{zero-add}
+use lib.Dec.{eqb}
+use lib.IntN.{ℤ, pos}
+use lib.ListN.{length, replicate}
+use borrow.Author.Tests.{eq-eqb, ne-eqb}
+use Rattle.endian.specs.Splice.{splice}
+use Rattle.endian.proofs.Signed.{within-natural}
+use Rattle.io.specs.Counts.{Counts}
+use Rattle.io.proofs.Counting.{counts}
+use Rattle.layout.specs.Limits.{maxTasks, tasksRule}
+use Rattle.meta.specs.Meta1.{tasksField}
+use Rattle.meta.specs.Heads.{headOf}
+use Rattle.meta.specs.Judge.{bigIn, tasksIn, headIn}
+use Rattle.meta.proofs.Refusals.{when-accepted}
+use Rattle.container.specs.declared.record.Checked.{Checked}
+use Rattle.container.specs.Load.{loadRefusal, loadedIn, loadAnswer, loadTable}
+use Rattle.container.specs.Reads.{containerOf}
+use Rattle.container.proofs.LoadTests.{load-holds}
+use Rattle.container.proofs.Refusing.{load-number}
+use Rattle.line.specs.Line.{decimal, space, spaced, cells, totalsOf, loaded, rest, lineOf}
+use Rattle.line.proofs.Text.{Put, put-is}
+
+-- an accepted container has no more than the most tasks
+pub few-tasks : (image : List ℕ) (table : List ℤ) (answer : Checked) → answer ≡ loadAnswer image table → answer .refusal ≡ 0
+    → answer .loaded .head .n ≤ maxTasks
+unfolding loadAnswer loadedIn headIn headOf tasksIn tasksRule
+few-tasks image table answer e none =
+    let z : loadRefusal image (length table) ≡ 0 = sym (load-number image table) ∙ ap (λ (a : Checked). a .refusal) (sym e) ∙ none in
+    let n = ap (λ (a : Checked). a .loaded .head .n) (e ∙ when-accepted (loadRefusal image (length table)) _ _ z) in
+    rw n (within-natural 1 maxTasks (tasksField (bigIn image) image) (load-holds image (length table) z .first .tasks) .2)
+
+-- the line, put at the start of the memory
+pub line-put : (image xs : List ℕ) {text ys : List ℕ} {end : ℕ} → text ≡ lineOf image → end ≤ length ys → Put xs 0 text ys end
+    → (ys ≡ splice xs 0 (lineOf image)) × ((end ≡ length (lineOf image)) × Counts end ys)
+line-put image xs {ys = ys} {end = end} e fits p = let q = put-is xs 0 e p in (q .0, (rw zero-add at (q .1), counts end ys fits))
+
+module _ (image : List ℕ) where
+  -- what the line says after the refusal
+  abbrev told : Checked → List ℤ → List ℕ
+  told answer table =
+      answer .loaded .head .n
+      ∷ answer .loaded .maxchunks
+      ∷ totalsOf (containerOf (answer .loaded) image table)
+
+  module _ (answer : Checked) (table : List ℤ) (e : answer ≡ loadAnswer image (replicate cells (pos 0)))
+      (t : table ≡ loadTable image (replicate cells (pos 0))) where
+    line-is : decimal (answer .refusal) ++ spaced (cond (eqb (answer .refusal) 0) (told answer table) []) ≡ lineOf image
+    unfolding lineOf rest loaded
+    line-is =
+        ap₂ (λ (a : Checked) (s : List ℤ). decimal (a .refusal) ++ spaced (cond (eqb (a .refusal) 0) (told a s) [])) e t
+
+    by-test : (b : Bool) → eqb (answer .refusal) 0 ≡ b → decimal (answer .refusal) ++ spaced (cond b (told answer table) []) ≡ lineOf image
+    by-test b f =
+        ap (λ (b : Bool). decimal (answer .refusal) ++ spaced (cond b (told answer table) [])) (sym f) ∙ line-is
+
+    pub refused-line : (answer .refusal ≡ 0 → ⊥) → decimal (answer .refusal) ≡ lineOf image
+    refused-line some = sym (append-nil (decimal (answer .refusal))) ∙ by-test _ (ne-eqb (answer .refusal) 0 some)
+
+    pub accepted-line : answer .refusal ≡ 0
+        → ((decimal (answer .refusal) ++ (space ∷ decimal (answer .loaded .head .n))) ++ (space ∷ decimal (answer .loaded .maxchunks)))
+        ++ spaced (totalsOf (containerOf (answer .loaded) image table))
+        ≡ lineOf image
+    accepted-line none = simp append-assoc (by-test _ (eq-eqb (answer .refusal) 0 none))

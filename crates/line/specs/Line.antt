@@ -1,0 +1,59 @@
+-- The one line that is printed for a container (document 01): "the refusal number alone, or 0, n, maxchunks and each task's total, in decimal
+-- with single spaces", loaded "with a table of 2,048 cells". The line's end is not part of it. Definitions only.
+use mathlib.Core.Bool.{cond}
+use mathlib.Core.List.{List, [], _∷_, _++_}
+use Prim.Native.Nat.{ℕ, zero, suc, _+_, _/_}
+use lib.Dec.{ltb, eqb}
+use lib.IntN.{ℤ, pos}
+use lib.ListN.{replicate}
+use Rattle.endian.specs.Below.{listBelow}
+use Rattle.io.specs.Digits.{digits}
+use Rattle.container.specs.declared.record.Checked.{Checked}
+use Rattle.container.specs.Load.{loadAnswer, loadTable}
+use Rattle.container.specs.Reads.{Container, containerOf, totalAnswer}
+
+-- how many decimal digits a number has, which needs no more than `most` of them after the first, and its digits
+abbrev pub places : ℕ → ℕ → ℕ
+places zero n = 1
+places (suc most) n = cond (ltb n 10) 1 (suc (places most (n / 10)))
+
+-- the digits that the widest number has
+abbrev pub widest : ℕ
+widest = 20
+
+abbrev pub decimal : ℕ → List ℕ
+decimal n = digits 10 (places widest n) n
+
+-- numbers in decimal, each after the first behind one space
+abbrev pub space : ℕ
+space = 32
+
+abbrev pub spaced : List ℕ → List ℕ
+spaced [] = []
+spaced (n ∷ ns) = (space ∷ decimal n) ++ spaced ns
+
+abbrev pub cells : ℕ
+cells = 2_048
+
+-- the total of each task of a loaded container
+unfoldable pub totalsOf : Container → List ℕ
+totalsOf c = listBelow (c .loaded .head .n) (λ i. totalAnswer c (i + 1) .bytes)
+
+module _ (image : List ℕ) where
+  abbrev blank : List ℤ
+  blank = replicate cells (pos 0)
+
+  unfoldable pub loaded : Checked
+  loaded = loadAnswer image blank
+
+  -- the numbers after the first
+  unfoldable pub rest : List ℕ
+  rest =
+      cond (eqb (loaded .refusal) 0)
+      (loaded .loaded .head .n
+      ∷ loaded .loaded .maxchunks
+      ∷ totalsOf (containerOf (loaded .loaded) image (loadTable image blank)))
+      []
+
+  unfoldable pub lineOf : List ℕ
+  lineOf = decimal (loaded .refusal) ++ spaced rest

@@ -1,0 +1,61 @@
+// An input read whole: a container from a file or from standard input.
+ghost use Prim.Native.Nat.{_≤_};
+ghost use lib.ListN.{length};
+ghost use Rattle.io.specs.Counts.{Counts};
+ghost use Rattle.line.specs.declared.input.Input.{Input};
+
+// The most bytes that are judged, and room for one more, by which a longer input is known.
+pub const LONGEST: usize = 65_536;
+
+pub const INPUT: usize = 65_537;
+
+// What was read: how many bytes, or that a read failed.
+pub struct Input {
+    pub failed: bool,
+    pub count: usize,
+}
+
+// One read, which may bring less than there is room for.
+fn read_some(fd: i32, part: &mut [u8]) -> Input
+    ensures { λ r. ⌜ r .count ≤ length (now (part .exit)) ⌝ }
+{
+    let got = libc::read(fd, part);
+    if got < 0 {
+        return Input {
+            failed: true,
+            count: 0,
+        };
+    }
+    let count = io::count(got, part);
+    Input {
+        failed: false,
+        count,
+    }
+}
+
+// Reads until buf is full, the input ends or a read fails. What a read of the system moves is open: only that it fits is promised.
+pub fn read_input(fd: i32, buf: &mut [u8]) -> Input
+    ensures { λ r. ⌜ Counts (r .count) (now (buf .exit)) ⌝ }
+{
+    let mut done = 0;
+    while done < buf.len() {
+        let got = read_some(fd, &mut buf[done..]);
+        if got.failed {
+            return Input {
+                failed: true,
+                count: 0,
+            };
+        }
+        if got.count == 0 {
+            return Input {
+                failed: false,
+                count: done,
+            };
+        }
+        done += got.count;
+    }
+    Input {
+        failed: false,
+        count: done,
+    }
+}

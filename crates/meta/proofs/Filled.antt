@@ -1,0 +1,71 @@
+-- Laws of a record's list: n entries, then zeros, up to the most tasks. Assumes nothing.
+use mathlib.Core.Path.{_≡_, refl, ap, sym, _∙_}
+use mathlib.Core.Bool.{Bool, true, false, cond}
+use mathlib.Core.List.{[], _∷_}
+use mathlib.Core.Logic.{⊎-elim}
+use Prim.Native.Nat.{ℕ, _+_, _<_, _≤_}
+use native.Mathlib.Nat.{eq-or-lt-of-le}
+use native.Mathlib.Omega.{arith}
+use borrow.Author.Tests.{lt-ltb, le-ltb, ltb-true, ltb-false, eqb-true, eqb-false}
+use lib.Dec.{ltb, eqb}
+use lib.ListN.{length, getD, set, replicate, length-set, length-replicate, getD-replicate}
+use lib.Seq.{ext-getD, getD-set-same, getD-set-other}
+use Rattle.endian.proofs.Below.{length-list, getD-list, join-cong}
+use Rattle.layout.specs.Limits.{maxTasks}
+use Rattle.meta.specs.Heads.{filled}
+
+pub length-filled : (n : ℕ) (f : ℕ → ℕ) → length (filled n f) ≡ maxTasks
+unfolding filled
+length-filled n f = length-list (λ i. cond (ltb i n) (f i) 0) maxTasks
+
+-- an entry, one of the first n, and one after them
+entry-any : (n : ℕ) (f : ℕ → ℕ) (i : ℕ) → i < maxTasks → getD (filled n f) i 0 ≡ cond (ltb i n) (f i) 0
+unfolding filled
+entry-any n f i l = getD-list (λ j. cond (ltb j n) (f j) 0) maxTasks i 0 l
+
+pub entry-filled : (n : ℕ) (f : ℕ → ℕ) (i : ℕ) → n ≤ maxTasks → i < n → getD (filled n f) i 0 ≡ f i
+entry-filled n f i h l = entry-any n f i (omega arith) ∙ simp (lt-ltb i n l)
+
+pub entry-past : (n : ℕ) (f : ℕ → ℕ) (i : ℕ) → n ≤ i → i < maxTasks → getD (filled n f) i 0 ≡ 0
+entry-past n f i h l = entry-any n f i l ∙ simp (le-ltb i n h)
+
+pub filled-cong : (n : ℕ) (f g : ℕ → ℕ) → ((i : ℕ) → i < n → f i ≡ g i) → filled n f ≡ filled n g
+unfolding filled
+filled-cong n f g h =
+    join-cong (λ i. cond (ltb i n) (f i) 0 ∷ []) (λ i. cond (ltb i n) (g i) 0 ∷ []) maxTasks
+    (λ i l. ap (λ (v : ℕ). v ∷ []) (pick i (ltb i n) refl))
+  where
+    pick : (i : ℕ) (b : Bool) → ltb i n ≡ b → cond b (f i) 0 ≡ cond b (g i) 0
+    pick i true e = h i (ltb-true i n e)
+    pick i false e = refl
+
+-- before the first entry is stored, and after one is
+pub filled-none : (f : ℕ → ℕ) → replicate maxTasks 0 ≡ filled 0 f
+filled-none f =
+    let long : length (replicate {A = ℕ} maxTasks 0) ≡ maxTasks = length-replicate {A = ℕ} maxTasks 0 in
+    ext-getD 0 (replicate maxTasks 0) (filled 0 f) (long ∙ sym (length-filled 0 f))
+    (λ i l.
+    let l′ : i < maxTasks = rw long at l in
+    getD-replicate maxTasks i 0 0 l′ ∙ sym (entry-past 0 f i (omega arith) l′))
+
+pub filled-more : (i : ℕ) (f : ℕ → ℕ) → i < maxTasks → set (filled i f) i (f i) ≡ filled (i + 1) f
+filled-more i f h =
+    ext-getD 0 (set (filled i f) i (f i)) (filled (i + 1) f)
+    (length-set (filled i f) i (f i) ∙ length-filled i f ∙ sym (length-filled (i + 1) f))
+    (λ j l. pick j (rw (length-set (filled i f) i (f i), length-filled i f) at l) (eqb j i) refl)
+  where
+    same : (j : ℕ) → (j ≡ i → ⊥) → (b : Bool) → ltb j i ≡ b → b ≡ ltb j (i + 1)
+    same j d true e = sym (lt-ltb j (i + 1) (omega (arith, ltb-true j i e)))
+    same j d false e =
+        sym (le-ltb j (i + 1) (⊎-elim (λ here. absurd (d (sym here))) (λ past. omega arith) (eq-or-lt-of-le (ltb-false j i e))))
+
+    pick : (j : ℕ) → j < maxTasks → (b : Bool) → eqb j i ≡ b → getD (set (filled i f) i (f i)) j 0 ≡ getD (filled (i + 1) f) j 0
+    pick j l true e =
+        let here : j ≡ i = eqb-true j i e in
+        rw here
+        (getD-set-same (filled i f) i (f i) 0 (rw (length-filled i f) h) ∙ sym (entry-filled (i + 1) f i (omega arith) (omega arith)))
+    pick j l false e =
+        getD-set-other (filled i f) i j (f i) 0 (eqb-false j i e)
+        ∙ entry-any i f j l
+        ∙ ap (λ (b : Bool). cond b (f j) 0) (same j (eqb-false j i e) (ltb j i) refl)
+        ∙ sym (entry-any (i + 1) f j l)

@@ -1,0 +1,10 @@
+pub mod Refusals
+pub mod Filled
+pub mod Fields
+pub mod Unsigned
+pub mod Values
+pub mod Rows
+pub mod Rules
+pub mod Heads
+pub mod Accepting
+pub mod Answers

@@ -1,0 +1,15 @@
+-- `meta::first::is_big` meets its contract. Assumes nothing.
+use native.Mathlib.Omega.{arith}
+use Rattle.meta.specs.Judge.{bigIn}
+use Rattle.meta.proofs.first.is_big.Statement.{statement}
+use Rattle.meta.proofs.first.is_big.Tie as tie
+
+field-is-requires : tie.Need-field-is-requires
+field-is-requires c κs = (omega arith, omega arith)
+
+returns : tie.Need-returns
+unfolding bigIn
+returns c = c .field-is .ensures
+
+pub is-big-spec : {M : Type 1} → statement M
+is-big-spec = tie.close (tie.spec field-is-requires returns)

@@ -1,0 +1,92 @@
+-- `meta::second::fill` meets its contract. The loop's invariant: the first j values are spliced into the table's start. The measure is the
+-- values left. Assumes nothing.
+use Prim.Native.Nat.{ℕ, _≤_, _-_}
+use mathlib.Core.Path.{_≡_, refl, ap, _∙_}
+use native.Mathlib.Nat.{le-antisymm}
+use native.Mathlib.Omega.{arith}
+use borrow.Author.Needs.{needs, sfits-of}
+use lib.ListN.{length}
+use mir.Facts.{toZ-ofZ}
+use mir.Syntax.{w64}
+use Rattle.endian.specs.Below.{listBelow}
+use Rattle.endian.specs.Splice.{splice}
+use Rattle.meta.specs.Meta2.{valueField}
+use Rattle.endian.proofs.Splice.{splice-none, splice-more}
+use Rattle.meta.proofs.second.fill.Statement.{statement}
+use Rattle.meta.proofs.second.fill.Tie as tie
+
+abbrev Inv-loop : tie.InvT-loop
+Inv-loop table₀ cells part n big at j₀ table j =
+    (j ≤ cells) × (length table ≡ length table₀) × (table ≡ splice table₀ 0 (listBelow j (valueField big part n)))
+
+abbrev μ-loop : tie.MeasureT-loop
+μ-loop table₀ cells part n big at j₀ table j = cells - j
+
+mul-at : tie.Need-mul-at Inv-loop μ-loop
+mul-at c = search needs
+
+loop-holds : tie.Need-loop-holds Inv-loop μ-loop
+loop-holds c =
+    let a = c .before .args in
+    (search needs, refl, splice-none (a .table .now) (valueField (a .big) (a .part .now) (a .n)))
+
+mul-get-i64 : tie.Need-mul-get-i64 Inv-loop μ-loop
+mul-get-i64 c = search needs
+
+add-get-i64 : tie.Need-add-get-i64 Inv-loop μ-loop
+add-get-i64 c = search needs
+
+get-i64-requires : tie.Need-get-i64-requires Inv-loop μ-loop
+get-i64-requires c κs = search needs
+
+mul-t12 : tie.Need-mul-t12 Inv-loop μ-loop
+mul-t12 c = search needs
+
+slice-set-from-table : tie.Need-slice-set-from-table Inv-loop μ-loop
+slice-set-from-table c = search needs
+
+add-j : tie.Need-add-j Inv-loop μ-loop
+add-j c = search needs
+
+loop-less : tie.Need-loop-less Inv-loop μ-loop
+loop-less c = search needs
+
+loop-again : tie.Need-loop-again Inv-loop μ-loop
+loop-again c =
+    let a = c .before .before .before .before .args in
+    let l = c .before .before .loop in
+    let value = toZ-ofZ {w = w64} (sfits-of (c .get-i64 .ok)) ∙ c .get-i64 .ensures in (
+      search needs,
+      search needs,
+      rw (value, l .inv .2) (splice-more (a .table .now) (valueField (a .big) (a .part .now) (a .n)) (l .j) (omega arith)),
+    )
+
+same-length : tie.Need-same-length Inv-loop μ-loop
+same-length c = search needs
+
+returns : tie.Need-returns Inv-loop μ-loop
+returns c =
+    let a = c .before .before .before .args in
+    let l = c .before .loop in
+    l .inv .2
+    ∙ ap (λ (k : ℕ). splice (a .table .now) 0 (listBelow k (valueField (a .big) (a .part .now) (a .n))))
+    (le-antisymm (l .inv .0) (c .loop-test .left))
+
+pub fill-spec : {M : Type 1} → statement M
+fill-spec =
+    tie.close
+    (tie.spec
+    Inv-loop
+    μ-loop
+    mul-at
+    loop-holds
+    mul-get-i64
+    add-get-i64
+    get-i64-requires
+    mul-t12
+    slice-set-from-table
+    add-j
+    loop-less
+    loop-again
+    same-length
+    returns)

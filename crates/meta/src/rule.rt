@@ -1,0 +1,57 @@
+// The rules for the counts of a record and for its head.
+ghost use mathlib.Core.Path.{_≡_};
+ghost use Prim.Native.Nat.{_≤_};
+ghost use lib.IntN.{pos};
+ghost use lib.ListN.{length, getD};
+ghost use Rattle.endian.specs.Below.{greatestBelow};
+ghost use Rattle.meta.specs.declared.head.Head.{Head};
+ghost use Rattle.meta.specs.Meta2.{countsRule};
+ghost use Rattle.meta.specs.Heads.{headSound};
+use crate::head::Head;
+use layout::limit;
+
+fn greatest(values: &[u64], n: usize) -> u64
+    requires { ⌜ n ≤ length (now values) ⌝ }
+    ensures { λ r. ⌜ r ≡ greatestBelow n (λ i. getD (now (values .entry)) i 0) ⌝ }
+{
+    let mut most = 0;
+    let mut i = 0;
+    while i < n {
+        if most < values[i] {
+            most = values[i];
+        }
+        i += 1;
+    }
+    most
+}
+
+// Whether each count is at most maxchunks, and the greatest is maxchunks.
+pub fn counts_ok(counts: &[u64], n: usize, maxchunks: u32) -> bool
+    requires { ⌜ n ≤ length (now counts) ⌝ }
+    ensures { λ r. ⌜ r ≡ countsRule n maxchunks (λ i. pos (getD (now (counts .entry)) i 0)) ⌝ }
+{
+    if !limit::all_within(counts, n, 0, maxchunks as u64) {
+        return false;
+    }
+    greatest(counts, n) == maxchunks as u64
+}
+
+// Whether a record's head keeps the rules, whatever its fields hold.
+pub fn head_ok(h: Head) -> bool
+    ensures { λ r. ⌜ r ≡ headSound h ⌝ }
+{
+    if 1 < h.order {
+        return false;
+    }
+    if !limit::blocksize_ok(h.blocksize) {
+        return false;
+    }
+    if !limit::tasks_ok(h.n) {
+        return false;
+    }
+    let n = h.n as usize;
+    if !limit::ranks_ok(&h.ranks, n) {
+        return false;
+    }
+    limit::sizes_ok(&h.sizes, n)
+}

@@ -1,0 +1,28 @@
+//! Holds the second implementation of document 01: opening, filling, closing, loading and reading one container.
+
+mod bytes;
+mod layout;
+mod load;
+mod read;
+mod record;
+mod session;
+mod tally;
+#[cfg(test)]
+mod tests;
+
+pub use bytes::Order;
+pub use layout::{meta1_end, Layout, FORMAT, MARK};
+pub use load::load;
+pub use read::{chunk, read, total};
+pub use record::{Head, Loaded, Session};
+pub use session::{close, open, write};
+pub use tally::{Answer, Tally};
+
+/// Passes if the rule holds, else refuses with the paper's number.
+fn demand(holds: bool, number: u32) -> Result<(), u32> {
+    if holds {
+        Ok(())
+    } else {
+        Err(number)
+    }
+}

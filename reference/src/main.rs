@@ -1,0 +1,35 @@
+//! Holds the commands of the program.
+
+mod forge;
+mod random;
+mod report;
+mod vectors;
+
+use std::error::Error;
+use std::io::{stdin, Read};
+use std::path::Path;
+
+const USAGE: &str = "reference check | vectors DIR | random SEED COUNT DIR | bench-container FILE";
+
+fn main() -> Result<(), Box<dyn Error>> {
+    let args: Vec<String> = std::env::args().skip(1).collect();
+    let words: Vec<&str> = args.iter().map(String::as_str).collect();
+    match words[..] {
+        ["check"] => check(),
+        ["vectors", dir] => report::save(Path::new(dir), vectors::all()),
+        ["random", seed, count, dir] => {
+            let containers = random::all(seed.parse()?, count.parse()?);
+            report::save(Path::new(dir), containers)
+        }
+        ["bench-container", file] => Ok(std::fs::write(file, forge::bench())?),
+        _ => Err(USAGE.into()),
+    }
+}
+
+/// Reads one container from standard input and prints its line.
+fn check() -> Result<(), Box<dyn Error>> {
+    let mut bytes = Vec::new();
+    stdin().take(report::LONGEST as u64 + 1).read_to_end(&mut bytes)?;
+    println!("{}", report::line(&bytes));
+    Ok(())
+}

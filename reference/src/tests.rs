@@ -1,0 +1,148 @@
+//! Holds the numbers to check by of document 01 and tests of hostile records.
+
+use crate::*;
+
+const SIZES: [u64; 2] = [500, 600];
+
+fn session(order: u32, sizes: &[u64], k: u32) -> (Session, Vec<u8>, Vec<i64>) {
+    let ranks: Vec<u64> = (0..sizes.len() as u64).collect();
+    let mut image = vec![0; Layout::new(512, sizes).end(u64::from(k)) as usize];
+    let mut table = vec![7; sizes.len() * k as usize];
+    let session = open(order, 1, 7, 512, &ranks, sizes, b"p", k, &mut image, &mut table);
+    (session.expect("a sound plan"), image, table)
+}
+
+fn p12(order: u32) -> (Vec<u8>, u64) {
+    let (mut session, mut image, mut table) = session(order, &SIZES, 3);
+    for length in [300, 200, 1] {
+        assert_eq!(write(&mut session, &mut image, &mut table, 1, &vec![9; length]), Ok(()));
+    }
+    assert_eq!(image[3071..3074], [0, 9, 0]);
+    let length = close(&mut session, &mut image, &table).expect("an open session");
+    assert_eq!(close(&mut session, &mut image, &table), Err(17));
+    (image, length)
+}
+
+#[test]
+fn p1_to_p10_layout() {
+    assert_eq!([2, 28, 29].map(meta1_end), [1120, 1536, 1552]);
+    assert_eq!(Layout::new(512, &[1; 28]).d, 1536);
+    assert_eq!(Layout::new(512, &[1; 29]).d, 2048);
+    assert_eq!([512, 513].map(|size| Layout::new(512, &[size]).g), [512, 1024]);
+    let layout = Layout::new(512, &SIZES);
+    assert_eq!((layout.d, layout.g, layout.end(3)), (1536, 1536, 6208));
+    assert_eq!([layout.chunk(0, 0), layout.chunk(1, 0)], [1536, 2048]);
+    assert_eq!([layout.chunk(0, 2), layout.chunk(1, 2)], [4608, 5120]);
+}
+
+#[test]
+fn p11_p12_container() {
+    for order in [0, 1] {
+        let (image, length) = p12(order);
+        let bytes = Order::from_number(order).expect("an order");
+        assert_eq!((length, bytes.int(&image, 1108), bytes.long(&image, 1112)), (4656, 2, 4608));
+        let meta2: Vec<i64> = bytes.longs(&image[4608..4656]).collect();
+        assert_eq!(meta2, [2, 0, 500, -1, 1, -1]);
+
+        let mut table = [5; 5];
+        let loaded = load(&image[..4656], &mut table).expect("a sound container");
+        assert_eq!((loaded.maxchunks, table), (2, [500, -1, 1, -1, 5]));
+        assert_eq!(total(&loaded, &image, &table, 1), Ok(501));
+        assert_eq!(chunk(&loaded, &image, &table, 1, 2), Ok(&[9u8][..]));
+        assert_eq!(chunk(&loaded, &image, &table, 2, 1), Err(22));
+        let mut out = [0; 9];
+        assert_eq!(read(&loaded, &image, &table, 1, 497, &mut out), Ok(4));
+        assert_eq!(out, [9, 9, 9, 9, 0, 0, 0, 0, 0]);
+        assert_eq!(read(&loaded, &image, &table, 1, 501, &mut out), Ok(0));
+        assert_eq!(read(&loaded, &image, &table, 1, 502, &mut out), Err(23));
+        assert_eq!(load(&image[..4655], &mut table), Err(12));
+        assert_eq!(load(&image, &mut table[..3]), Err(18));
+    }
+}
+
+#[test]
+fn p13_room() {
+    let (mut session, mut image, mut table) = session(0, &[500], 2);
+    let requests =
+        [(501, Err(15)), (1, Ok(())), (500, Ok(())), (1, Err(16)), (501, Err(15)), (0, Ok(()))];
+    for (length, answer) in requests {
+        assert_eq!(write(&mut session, &mut image, &mut table, 1, &vec![1; length]), answer);
+    }
+    assert_eq!((session.head.counts[0], table), (2, vec![1, 500]));
+}
+
+#[test]
+fn openings() {
+    let attempt =
+        |order, blocksize, ranks: &[u64], sizes: &[u64], prefix: usize, k, image: usize| {
+            let (mut image, mut table) = (vec![0; image], vec![0; 64]);
+            let prefix = vec![b'x'; prefix];
+            open(order, 0, 0, blocksize, ranks, sizes, &prefix, k, &mut image, &mut table).err()
+        };
+    let ranks: Vec<u64> = (0..65).collect();
+    assert_eq!(attempt(2, 0, &[], &[], 0, 0, 0), Some(2));
+    for blocksize in [0, 256, 768, 8_388_608, u32::MAX] {
+        assert_eq!(attempt(0, blocksize, &[], &[], 0, 0, 0), Some(5));
+    }
+    assert_eq!(attempt(0, 4_194_304, &[], &[], 0, 0, 0), Some(6));
+    assert_eq!(attempt(0, 512, &ranks, &[1; 65], 0, 0, 0), Some(6));
+    assert_eq!(attempt(0, 512, &[0, 1], &[1], 0, 0, 0), Some(6));
+    assert_eq!(attempt(0, 512, &[3, 3], &[0, 1], 1025, 0, 0), Some(21));
+    assert_eq!(attempt(0, 512, &[3, 3], &[0, 1], 1024, 0, 0), Some(8));
+    assert_eq!(attempt(0, 512, &[0], &[1_073_741_825], 0, 0, 0), Some(9));
+    assert_eq!(attempt(0, 512, &[0], &[1], 0, 33, 0), Some(20));
+    assert_eq!(attempt(0, 512, &[0, 1], &SIZES, 1024, 3, 6207), Some(18));
+    assert_eq!(attempt(0, 512, &[0, 1], &SIZES, 1024, 3, 6208), None);
+    assert_eq!(attempt(1, 512, &ranks[..64], &[1; 64], 0, 1, 40_000), None);
+}
+
+#[test]
+fn hostile_records() {
+    let (good, mut image, mut table) = session(0, &SIZES, 3);
+    let mut answer = |change: fn(&mut Session), task| {
+        let mut session = good.clone();
+        change(&mut session);
+        let before = session.clone();
+        let answer = write(&mut session, &mut image, &mut table, task, b"x");
+        assert_eq!(session, before);
+        answer
+    };
+    assert_eq!(answer(|s| s.head.n = u32::MAX, 1), Err(17));
+    assert_eq!(answer(|s| s.head.n = 0, 1), Err(17));
+    assert_eq!(answer(|s| s.head.sizes[1] = u64::MAX, 1), Err(17));
+    assert_eq!(answer(|s| s.head.ranks[1] = 0, 1), Err(17));
+    assert_eq!(answer(|s| s.head.counts[1] = u64::MAX, 1), Err(17));
+    assert_eq!(answer(|s| s.head.order = 2, 1), Err(17));
+    assert_eq!(answer(|s| s.k = u32::MAX, 1), Err(17));
+    assert_eq!(answer(|s| s.k = 4, 1), Err(18));
+    assert_eq!(answer(|s| s.head.sizes[0] = 1_073_741_824, 1), Err(18));
+    assert_eq!(answer(|s| s.head.counts[1] = 1, 1), Err(19));
+    assert_eq!(answer(|s| s.head.counts[2] = 9, 0), Err(14));
+    assert_eq!(answer(|_| (), u64::MAX), Err(14));
+    let mut hollow = Loaded::refused();
+    assert_eq!(total(&hollow, &[], &[], 1), Err(17));
+    hollow.head.closed = 0;
+    assert_eq!(total(&hollow, &[], &[], 1), Err(17));
+}
+
+#[test]
+fn tally_agrees_with_writes() {
+    let sizes = [5, 600, 1];
+    let (mut session, mut image, mut table) = session(1, &sizes, 4);
+    let layout = Layout::new(512, &sizes);
+    let starts = |task| (0..4).map(|chunk| layout.chunk(task, chunk)).collect();
+    let mut tally = Tally::new(4, (0..3).map(|task| (sizes[task], starts(task))));
+    let mut seen = [0; 17];
+    for i in 0..400u64 {
+        let (task, length) = (i * 7 % 11 % 5, i * i * 31 % 97 % 8 * (1 + i % 2 * 89));
+        let answer = tally.feed(task, length);
+        let bytes = vec![i as u8 | 1; length as usize];
+        let written = write(&mut session, &mut image, &mut table, task, &bytes);
+        assert_eq!(written.err().unwrap_or(0), answer.number);
+        seen[answer.number as usize] += 1;
+        if let Some(offset) = answer.offset {
+            assert_eq!(image[offset as usize..][..bytes.len()], bytes);
+        }
+    }
+    assert!([0, 14, 15, 16].iter().all(|&number| seen[number] > 0));
+}
