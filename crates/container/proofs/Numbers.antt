@@ -12,11 +12,11 @@ use Rattle.layout.specs.Limits.{tasksRule, powerOfTwo, blocksizeRule, sizesRule
 use Rattle.layout.specs.Areas.{meta1End, roundUp, dataStart, extended, capacity, extendedBefore, globalskip, chunkStart, meta2Start, meta2Length, meta2End}
 use Rattle.meta.specs.Refusals.{firstFailing}
 use Rattle.meta.proofs.Refusals.{first-passes}
-use Rattle.meta.specs.Meta1.{lastFields, meta1}
+use Rattle.meta.specs.Meta1.{lastFields, meta1Front, meta1, openingBytes}
 use Rattle.meta.specs.Meta2.{valueRule, valuesRule, countsRule, meta2}
 use Rattle.meta.specs.Heads.{filled, holds, startOf, meta2At, endAt, headOf, headSound, tooShort, cellsAgree}
 use Rattle.container.specs.Records.{sessionSound, loadedSound, recordTests, isTask}
-use Rattle.container.specs.Open.{planTests, openRefusal, opens, openHead, openSession, openBytes, openAnswer, openImage, openTable}
+use Rattle.container.specs.Open.{planTests, openRefusal, opens, openHead, openSession, openAnswer, openImage, openTable}
 use Rattle.container.specs.Write.{State, Request, sessionTests, begun, inLast, room, spot, target, requestTests, writeRefusal, stored, afterWrite}
 use Rattle.container.specs.Close.{maxchunksOf, meta2Of, closedImage, closeRefusal, closeAnswer, closeImage}
 use Rattle.meta.specs.Judge.{markedIn, bigIn, orderedIn, tasksIn, maxchunksIn, headIn, startTests, fieldTests, fixedTests, listTests, lastTests, meta1Tests, countsIn, valuesIn, meta2Tests}
@@ -28,9 +28,9 @@ use Rattle.container.specs.Numbers.{Agrees, pTable, otherTable}
 both-tables : Agrees pTable × Agrees otherTable
 unfolding allBelow anyBelow sumBelow greatestBelow joinBelow flatten splice tasksRule powerOfTwo blocksizeRule sizesRule plannedRule
     maxchunksRule allDifferent ranksRule meta1End roundUp dataStart extended capacity extendedBefore globalskip chunkStart
-    meta2Start meta2Length meta2End firstFailing lastFields meta1 valueRule valuesRule countsRule meta2 filled headSound
+    meta2Start meta2Length meta2End firstFailing lastFields meta1Front meta1 openingBytes valueRule valuesRule countsRule meta2 filled headSound
     sessionSound loadedSound tooShort cellsAgree recordTests planTests holds startOf meta2At endAt headOf openRefusal opens openHead openSession
-    openBytes openAnswer openImage openTable sessionTests begun inLast room spot target requestTests stored maxchunksOf meta2Of
+    openAnswer openImage openTable sessionTests begun inLast room spot target requestTests stored maxchunksOf meta2Of
     closedImage writeRefusal afterWrite closeRefusal closeAnswer closeImage markedIn bigIn orderedIn tasksIn maxchunksIn headIn
     startTests fieldTests fixedTests listTests lastTests meta1Tests countsIn valuesIn meta2Tests partIn loadedIn loadRefusal loadAnswer loadTable loadedTests readTests used writtenIn chunkBytes
     chunkRefusal chunkPart streamOf totalOf totalAnswer readRefusal readAnswer readOutput fate told pTable otherTable

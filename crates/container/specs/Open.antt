@@ -1,18 +1,17 @@
 -- Opening a session (document 01, "A session"): its tests, and what an accepted and a refused opening leave. Definitions only.
 use mathlib.Core.Bool.{Bool, cond, not, _||_}
 use mathlib.Core.List.{List, [], _∷_, _++_}
-use Prim.Native.Nat.{ℕ, _-_, _*_}
+use Prim.Native.Nat.{ℕ, _*_}
 use lib.Dec.{ltb, eqb}
 use lib.IntN.{ℤ, pos}
 use lib.ListN.{length, replicate}
 use Rattle.endian.specs.Splice.{splice}
 use Rattle.layout.specs.Limits.{maxTasks, blocksizeRule, tasksRule, ranksRule, sizesRule, plannedRule}
-use Rattle.layout.specs.Areas.{meta1End, dataStart}
 use Rattle.meta.specs.declared.head.Head.{Head}
 use Rattle.container.specs.declared.record.Session.{Session}
 use Rattle.container.specs.declared.record.Written.{Written}
 use Rattle.meta.specs.Refusals.{Test, test, firstFailing}
-use Rattle.meta.specs.Meta1.{prefixLength, meta1}
+use Rattle.meta.specs.Meta1.{prefixLength, openingBytes}
 use Rattle.meta.specs.Meta2.{unused}
 use Rattle.meta.specs.Heads.{entry, isOrder, tooShort, headOf}
 use Rattle.container.specs.Records.{sessionOf, noSession}
@@ -57,10 +56,6 @@ module _ (o : Opening) where
   unfoldable pub openSession : Session
   openSession = sessionOf openHead (replicate maxTasks 0) (o .planned) 0
 
-  -- "META1 and zeros up to D"
-  unfoldable pub openBytes : List ℕ
-  openBytes = meta1 openHead (o .prefix) 0 0 ++ replicate (dataStart (o .blocksize) tasks - meta1End tasks) 0
-
   module _ (image : List ℕ) (table : List ℤ) where
     unfoldable pub opens : Bool
     opens = eqb (openRefusal (length image) (length table)) 0
@@ -72,7 +67,7 @@ module _ (o : Opening) where
 
     -- "Opening writes META1 and zeros up to D, and -1 in the first n·K cells. Nothing else changes."
     unfoldable pub openImage : List ℕ
-    openImage = cond opens (splice image 0 openBytes) image
+    openImage = cond opens (splice image 0 (openingBytes openHead (o .prefix))) image
 
     unfoldable pub openTable : List ℤ
     openTable = cond opens (splice table 0 (replicate (tasks * o .planned) unused)) table

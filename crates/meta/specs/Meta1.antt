@@ -6,6 +6,7 @@ use lib.IntN.{ℤ, pos}
 use lib.ListN.{length, replicate}
 use Rattle.endian.specs.Below.{joinBelow}
 use Rattle.endian.specs.Signed.{signedAt, signedDigits}
+use Rattle.layout.specs.Areas.{meta1End, dataStart}
 use Rattle.meta.specs.declared.head.Head.{Head}
 use Rattle.meta.specs.Heads.{entry, isBig}
 
@@ -86,8 +87,9 @@ padded prefix = prefix ++ replicate (prefixLength - length prefix) 0
 unfoldable pub lastFields : Bool → ℕ → ℕ → List ℕ
 lastFields big maxchunks start = signedDigits big 4 (pos maxchunks) ++ signedDigits big 8 (pos start)
 
-unfoldable pub meta1 : Head → List ℕ → ℕ → ℕ → List ℕ
-meta1 h prefix maxchunks start =
+-- all before them
+unfoldable pub meta1Front : Head → List ℕ → List ℕ
+meta1Front h prefix =
     let big = isBig h in
     flatten (
     mark
@@ -104,5 +106,11 @@ meta1 h prefix maxchunks start =
     ∷ padded prefix
     ∷ joinBelow (h .n) (λ i. signedDigits big 8 (pos (entry (h .ranks) i)))
     ∷ joinBelow (h .n) (λ i. signedDigits big 8 (pos (entry (h .sizes) i)))
-    ∷ lastFields big maxchunks start
     ∷ [])
+
+unfoldable pub meta1 : Head → List ℕ → ℕ → ℕ → List ℕ
+meta1 h prefix maxchunks start = meta1Front h prefix ++ lastFields (isBig h) maxchunks start
+
+-- what opening writes: "META1 and zeros up to D"
+unfoldable pub openingBytes : Head → List ℕ → List ℕ
+openingBytes h prefix = meta1 h prefix 0 0 ++ replicate (dataStart (h .blocksize) (h .n) - meta1End (h .n)) 0
