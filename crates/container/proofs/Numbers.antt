@@ -14,15 +14,16 @@ use Rattle.meta.specs.Refusals.{firstFailing}
 use Rattle.meta.proofs.Refusals.{first-passes}
 use Rattle.meta.specs.Meta1.{lastFields, meta1Front, meta1, openingBytes}
 use Rattle.meta.specs.Meta2.{valueRule, valuesRule, countsRule, meta2}
-use Rattle.meta.specs.Heads.{filled, holds, startOf, meta2At, endAt, headOf, headSound, tooShort, cellsAgree}
-use Rattle.container.specs.Records.{sessionSound, loadedSound, recordTests, isTask}
-use Rattle.container.specs.Open.{planTests, openRefusal, opens, openHead, openSession, openAnswer, openImage, openTable}
-use Rattle.container.specs.Write.{State, Request, sessionTests, begun, inLast, room, spot, target, requestTests, writeRefusal, stored, afterWrite}
-use Rattle.container.specs.Close.{maxchunksOf, meta2Of, closedImage, closeRefusal, closeAnswer, closeImage}
+use Rattle.meta.specs.Heads.{filled, holds, startOf, meta2At, endAt, headOf, headSound, tooShort, cellsAgree, recordTests, isTask}
+use Rattle.container.specs.Records.{loadedSound}
+use Rattle.session.specs.Records.{State, sessionSound, sessionTests}
+use Rattle.session.specs.Open.{planTests, openRefusal, opens, openHead, openSession, openAnswer, openImage, openTable}
+use Rattle.session.specs.Write.{Request, begun, inLast, room, spot, target, requestTests, writeRefusal, stored, afterWrite}
+use Rattle.session.specs.Close.{maxchunksOf, meta2Of, closedImage, closeRefusal, closeAnswer, closeImage}
 use Rattle.meta.specs.Judge.{markedIn, bigIn, orderedIn, tasksIn, maxchunksIn, headIn, startTests, fieldTests, fixedTests, listTests, lastTests, meta1Tests, countsIn, valuesIn, meta2Tests}
 use Rattle.container.specs.Load.{partIn, loadedIn, loadRefusal, loadAnswer, loadTable}
 use Rattle.container.specs.Reads.{loadedTests, readTests, used, writtenIn, chunkBytes, chunkRefusal, chunkPart, streamOf, totalOf, totalAnswer, readRefusal, readAnswer, readOutput}
-use Rattle.container.specs.Tally.{Plan, Ask, Tally, fate, answerTo, told}
+use Rattle.room.specs.Tally.{Plan, Ask, Tally, fate, answerTo, told}
 use Rattle.container.specs.Numbers.{Agrees, pTable, otherTable}
 
 both-tables : Agrees pTable × Agrees otherTable

@@ -16,12 +16,13 @@ use Rattle.layout.proofs.Bounds.{sound-size}
 use Rattle.layout.proofs.Chunks.{capacity-small, chunk-before-meta2}
 use Rattle.meta.specs.Refusals.{test, firstFailing}
 use Rattle.meta.specs.Meta2.{valueIndex}
-use Rattle.meta.specs.Heads.{entry, cell, holds, startOf, endAt, cellsAgree}
+use Rattle.meta.specs.Heads.{entry, cell, holds, startOf, endAt, cellsAgree, recordTests, isTask}
 use Rattle.meta.proofs.Refusals.{Numbered, both-pass, none-fails}
 use Rattle.meta.proofs.Rules.{counts-within, valueIndex-lt, values-used}
-use Rattle.container.specs.Records.{loadedSound, recordTests, isTask}
+use Rattle.container.specs.Records.{loadedSound}
 use Rattle.container.specs.Reads.{Container, loadedTests, readTests, used, writtenIn, chunkRefusal}
-use Rattle.container.proofs.Records.{head-kept, LoadedHolds, loaded-holds, RecordHolds, record-numbered, record-holds}
+use Rattle.meta.proofs.Records.{head-kept, RecordHolds, record-numbered, record-holds}
+use Rattle.container.proofs.Records.{LoadedHolds, loaded-holds}
 
 pub record Readable (c : Container) (task : ℕ) : Type 0 where
   pub sound : Sound (c .loaded .head .blocksize) (c .loaded .head .n) (c .loaded .head .sizes)

@@ -30,7 +30,7 @@ use Rattle.container.specs.Demands.{bytesSaid, streamSaid, totalSaid, Sa
 use Rattle.container.proofs.Every.{headSaid, few, block-kept, tasks-kept, maxchunks-kept, ranks-kept, sizes-kept, counts-kept, values-kept}
 use Rattle.container.proofs.Every.{loaded-is, room, says}
 use Rattle.container.proofs.Refusing.{total-number, read-number}
-use Rattle.container.proofs.Records.{record-passes}
+use Rattle.meta.proofs.Records.{record-passes}
 use Rattle.container.proofs.Readable.{loaded-numbered, read-numbered, readable}
 use Rattle.container.proofs.Stream.{chunk-length, chunk-allowed, counted}
 

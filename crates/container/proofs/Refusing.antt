@@ -13,7 +13,7 @@ use Rattle.meta.specs.Judge.{startTests, fieldTests, fixedTests, listTests, las
 use Rattle.meta.proofs.Refusals.{Each, answered, when-refused, number-is}
 use Rattle.container.specs.declared.record.Checked.{Checked}
 use Rattle.container.specs.declared.record.Counted.{Counted}
-use Rattle.container.specs.Records.{recordTests}
+use Rattle.meta.specs.Heads.{recordTests}
 use Rattle.container.specs.Load.{loadRefusal, loadAnswer, loadTable}
 use Rattle.container.specs.Reads.{Container, loadedTests, readTests, chunkRefusal, chunkPart, totalAnswer, readRefusal, readAnswer, readOutput}
 use Rattle.container.specs.Demands.{OneOf, loadNumbers, chunkNumbers, readNumbers, totalNumbers, LoadRefuses, ReadsRefuse}

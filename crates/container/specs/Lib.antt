@@ -1,10 +1,6 @@
 pub mod Records
 pub mod Format
 pub mod Load
-pub mod Open
-pub mod Write
-pub mod Close
 pub mod Reads
 pub mod Demands
-pub mod Tally
 pub mod Numbers

@@ -12,13 +12,14 @@ use Rattle.layout.specs.Areas.{meta1End, dataStart, extended, globalskip, chunk
 use Rattle.endian.specs.Splice.{splice}
 use Rattle.meta.specs.Meta1.{formatField, maxchunksField, startField, meta1}
 use Rattle.meta.specs.Heads.{entry, filled, orderOf, headOf}
-use Rattle.container.specs.Open.{Opening, openRefusal, openSession, openAnswer, openImage, openTable}
-use Rattle.container.specs.Write.{State, Request, target, writeRefusal, afterWrite}
-use Rattle.container.specs.Close.{closeAnswer, closeImage}
+use Rattle.session.specs.Records.{State}
+use Rattle.session.specs.Open.{Opening, openRefusal, opened}
+use Rattle.session.specs.Write.{Request, target, writes, refusals}
+use Rattle.session.specs.Close.{closeAnswer, closeImage}
 use Rattle.container.specs.Records.{loadedOf}
 use Rattle.container.specs.Load.{loadRefusal, loadAnswer, loadTable}
 use Rattle.container.specs.Reads.{Container, containerOf, chunkRefusal, chunkPart, totalAnswer, readRefusal, readAnswer, readOutput}
-use Rattle.container.specs.Tally.{Plan, planOf, Ask, Book, offset, blank, fateIn, toldAll, answers, held}
+use Rattle.room.specs.Tally.{Plan, planOf, asks, Book, offset, blank, fateIn, toldAll, answers, held}
 
 -- a row: what the rules compute, and what the paper says
 pub record Row : Type 0 where
@@ -48,29 +49,12 @@ plan order blocksize sizes planned =
       planned = planned;
     }
 
-abbrev pub opened : Opening → ℕ → ℕ → State
-opened o imageLength cells =
-    record {
-      session = openAnswer o (replicate imageLength 0) (replicate cells (pos 0)) .session;
-      image = openImage o (replicate imageLength 0) (replicate cells (pos 0));
-      table = openTable o (replicate imageLength 0) (replicate cells (pos 0));
-    }
+abbrev pub openedZeros : Opening → ℕ → ℕ → State
+openedZeros o imageLength cells = opened o (replicate imageLength 0) (replicate cells (pos 0))
 
 -- a write of task 1: so many bytes of one value
 abbrev pub write : ℕ → ℕ → Request
 write bytes value = record { task = 1; bytes = replicate bytes value }
-
-abbrev pub run : State → List Request → State
-run st [] = st
-run st (q ∷ qs) = run (afterWrite st q) qs
-
-abbrev pub refusals : State → List Request → List ℕ
-refusals st [] = []
-refusals st (q ∷ qs) = writeRefusal st q ∷ refusals (afterWrite st q) qs
-
--- what the tally is fed of them
-abbrev pub asks : List Request → List Ask
-asks qs = map (λ (q : Request). record { task = q .task; L = length (q .bytes) }) qs
 
 -- ---- "blocksize 512, sizes 500 and 600, K=3": after 300 and 200 bytes of task 1, and after 1 more
 
@@ -78,7 +62,7 @@ abbrev pub two : List ℕ
 two = 500 ∷ 600 ∷ []
 
 abbrev pub twoOpened : ℕ → State
-twoOpened order = opened (plan order 512 two 3) 6208 6
+twoOpened order = openedZeros (plan order 512 two 3) 6208 6
 
 abbrev pub twoFirst : List Request
 twoFirst = write 300 1 ∷ write 200 2 ∷ []
@@ -87,13 +71,13 @@ abbrev pub twoLast : Request
 twoLast = write 1 3
 
 abbrev pub twoWritten : State
-twoWritten = run (twoOpened 0) twoFirst
+twoWritten = writes (twoOpened 0) twoFirst
 
 abbrev pub twoDone : ℕ → State
-twoDone order = run (twoOpened order) (twoFirst ++ (twoLast ∷ []))
+twoDone order = writes (twoOpened order) (twoFirst ++ (twoLast ∷ []))
 
 abbrev pub twoPlan : Plan
-twoPlan = planOf (openSession (plan 0 512 two 3))
+twoPlan = planOf (plan 0 512 two 3)
 
 abbrev pub twoBook : Book
 twoBook = toldAll twoPlan blank (asks twoFirst)
@@ -114,13 +98,13 @@ twoStated = pos 2 ∷ pos 4608 ∷ pos 2 ∷ pos 0 ∷ pos 500 ∷ negsuc 0 ∷ 
 -- ---- "Size 500, K=2", one task: 1, 500 and 1, with a request of 501 at each moment, by the session's rules and by the tally
 
 abbrev pub oneOpened : State
-oneOpened = opened (plan 0 512 (500 ∷ []) 2) (imageNeeded 512 1 (λ i. 500) 2) 2
+oneOpened = openedZeros (plan 0 512 (500 ∷ []) 2) (imageNeeded 512 1 (λ i. 500) 2) 2
 
 abbrev pub oneRequests : List Request
 oneRequests = map (λ (L : ℕ). write L 7) (501 ∷ 1 ∷ 501 ∷ 500 ∷ 501 ∷ 1 ∷ 501 ∷ [])
 
 abbrev pub onePlan : Plan
-onePlan = planOf (openSession (plan 0 512 (500 ∷ []) 2))
+onePlan = planOf (plan 0 512 (500 ∷ []) 2)
 
 abbrev pub oneAnswers : List ℕ
 oneAnswers = answers onePlan blank (asks oneRequests)

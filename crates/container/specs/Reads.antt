@@ -13,8 +13,8 @@ use Rattle.container.specs.declared.record.Loaded.{Loaded}
 use Rattle.container.specs.declared.record.Counted.{Counted}
 use Rattle.meta.specs.Refusals.{Test, test, firstFailing}
 use Rattle.meta.specs.Meta2.{valueIndex}
-use Rattle.meta.specs.Heads.{entry, cell, startOf}
-use Rattle.container.specs.Records.{loadedSound, recordTests, isTask}
+use Rattle.meta.specs.Heads.{entry, cell, startOf, recordTests, isTask}
+use Rattle.container.specs.Records.{loadedSound}
 
 -- a loaded record with its image and its table
 pub record Container : Type 0 where

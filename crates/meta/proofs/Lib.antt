@@ -8,3 +8,4 @@ pub mod Rules
 pub mod Heads
 pub mod Accepting
 pub mod Answers
+pub mod Records

@@ -1,15 +1,17 @@
 -- Document 01, "A session": what both records share, their head, with the lists that have an entry for each of the most tasks; when a
--- head is sound, what a record needs of image and table, and how a head is made. Entries past n are 0 and not judged. Definitions only.
-use mathlib.Core.Bool.{Bool, cond, _&&_, _||_}
-use mathlib.Core.List.{List}
+-- head is sound, what is tested of a record at every call, and how a head is made. Entries past n are 0 and not judged. Definitions only.
+use mathlib.Core.Bool.{Bool, cond, not, _&&_, _||_}
+use mathlib.Core.List.{List, [], _∷_}
 use Prim.Native.Nat.{ℕ, _*_}
 use lib.Dec.{ltb, leb, eqb}
 use lib.IntN.{ℤ, pos}
-use lib.ListN.{getD, replicate}
+use lib.ListN.{length, getD, replicate}
 use Rattle.endian.specs.Below.{listBelow}
+use Rattle.endian.specs.Signed.{within}
 use Rattle.layout.specs.Limits.{maxTasks, blocksizeRule, tasksRule, ranksRule, sizesRule}
 use Rattle.layout.specs.Areas.{capacity, chunkStart, meta2Start, meta2End}
 use Rattle.meta.specs.declared.head.Head.{Head}
+use Rattle.meta.specs.Refusals.{Test, test}
 use Rattle.meta.specs.Meta2.{valuesRule}
 
 -- an entry of a record's list, a cell of a table, and a list of n entries followed by zeros
@@ -64,6 +66,18 @@ tooShort b n size m imageLength cells = ltb imageLength (meta2End b n size m) ||
 -- "table cells disagree with the record": judged over all n times m cells, by META2's rule
 unfoldable pub cellsAgree : Head → ℕ → List ℕ → List ℤ → Bool
 cellsAgree h m counts table = valuesRule (h .n) m (holds h) (entry counts) (cell table)
+
+-- "17, 18, 19": what write, close and the reads test of a record, by its mark, whether it is sound, and for m chunks its cells
+unfoldable pub recordTests : ℕ → Bool → Head → ℕ → List ℕ → List ℕ → List ℤ → List Test
+recordTests closed sound h m counts image table =
+    test 17 (not (eqb closed 0) || not sound)
+    ∷ test 18 (tooShort (h .blocksize) (h .n) (entry (h .sizes)) m (length image) (length table))
+    ∷ test 19 (not (cellsAgree h m counts table))
+    ∷ []
+
+-- a task number, counted from 1
+abbrev pub isTask : ℕ → ℕ → Bool
+isTask n task = within 1 n (pos task)
 
 -- ---- the place where a head is made
 

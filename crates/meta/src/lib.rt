@@ -5,3 +5,4 @@ pub mod head;
 pub mod refusal;
 pub mod rule;
 pub mod second;
+pub mod sound;

@@ -4,7 +4,7 @@ use native.Mathlib.Omega.{arith}
 use borrow.Author.Needs.{needs}
 use borrow.Author.Tests.{not-true, not-false}
 use Rattle.container.specs.Records.{loadedSound}
-use Rattle.container.proofs.Records.{head-tasks}
+use Rattle.meta.proofs.Records.{head-tasks}
 use Rattle.container.proofs.sound.loaded_ok.Statement.{statement}
 use Rattle.container.proofs.sound.loaded_ok.Tie as tie
 

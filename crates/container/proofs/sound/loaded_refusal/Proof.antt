@@ -3,7 +3,8 @@ use mathlib.Core.Path.{sym, _∙_}
 use native.Mathlib.Omega.{arith}
 use borrow.Author.Needs.{needs}
 use Rattle.container.specs.Reads.{loadedTests}
-use Rattle.container.proofs.Records.{head-tasks, loaded-holds}
+use Rattle.meta.proofs.Records.{head-tasks}
+use Rattle.container.proofs.Records.{loaded-holds}
 use Rattle.container.proofs.sound.loaded_refusal.Statement.{statement}
 use Rattle.container.proofs.sound.loaded_refusal.Tie as tie
 

@@ -1,15 +1,14 @@
--- `container::sound::record_refusal` meets its contract: each return by the tests that led there. Assumes nothing.
+-- `meta::sound::record_refusal` meets its contract: each return by the tests that led there. Assumes nothing.
 use mathlib.Core.Path.{sym, _∙_}
 use native.Mathlib.Omega.{arith}
 use native.Mathlib.Nat.{mul-le-mul}
 use borrow.Author.Needs.{needs}
 use borrow.Author.Tests.{lt-ltb, le-ltb, eq-eqb, ne-eqb, not-true, not-false}
 use Rattle.meta.specs.Refusals.{firstFailing}
-use Rattle.meta.specs.Heads.{tooShort}
-use Rattle.container.specs.Records.{recordTests}
-use Rattle.container.proofs.Records.{head-tasks, head-kept}
-use Rattle.container.proofs.sound.record_refusal.Statement.{statement}
-use Rattle.container.proofs.sound.record_refusal.Tie as tie
+use Rattle.meta.specs.Heads.{tooShort, recordTests}
+use Rattle.meta.proofs.Records.{head-tasks, head-kept}
+use Rattle.meta.proofs.sound.record_refusal.Statement.{statement}
+use Rattle.meta.proofs.sound.record_refusal.Tie as tie
 
 returns : tie.Need-returns
 unfolding firstFailing recordTests

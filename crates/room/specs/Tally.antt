@@ -1,13 +1,17 @@
--- Document 01, "The tally of demand 3": what it is fed, what it keeps of a task (u and w alone), and what it answers to each write.
--- Its rules know nothing of records, images and tables; `planOf` alone says what of a session it is fed. Definitions only.
+-- Document 01, "The tally of demand 3": what it is fed, what it keeps of a task (u and w alone), what it answers to each write, and where it
+-- puts each byte. Its rules know nothing of records, images and tables; `planOf` and `askOf` say what it is fed. Definitions only.
 use mathlib.Core.Bool.{cond, not, _&&_}
-use mathlib.Core.List.{List, [], _∷_}
-use Prim.Native.Nat.{ℕ, _+_, _-_}
+use mathlib.Core.Path.{_≡_}
+use mathlib.Core.List.{List, [], _∷_, map}
+use Prim.Native.Nat.{ℕ, _+_, _-_, _<_}
 use lib.Dec.{ltb, leb, eqb}
 use lib.IntN.{pos}
+use lib.ListN.{length, getD}
 use Rattle.endian.specs.Signed.{within}
-use Rattle.container.specs.declared.record.Session.{Session}
-use Rattle.meta.specs.Heads.{holds, startOf}
+use Rattle.layout.specs.Areas.{capacity, chunkStart}
+use Rattle.meta.specs.Heads.{entry}
+use Rattle.session.specs.Open.{Opening, tasks}
+use Rattle.session.specs.Write.{Request}
 
 -- "The tally is fed n, K, each task's c and chunk starts": chunk k of task t starts at `start t k`, both counted from 1
 pub record Plan : Type 0 where
@@ -16,13 +20,26 @@ pub record Plan : Type 0 where
   pub c : ℕ → ℕ
   pub start : ℕ → ℕ → ℕ
 
-abbrev pub planOf : Session → Plan
-planOf s = record { n = s .head .n; K = s .planned; c = λ task. holds (s .head) (task - 1); start = startOf (s .head) }
+-- of an opening's own arguments: "A task's chunk size c is its requested size", what a chunk holds
+abbrev pub planOf : Opening → Plan
+planOf o =
+    record {
+      n = tasks o;
+      K = o .planned;
+      c = λ task. capacity (o .blocksize) (entry (o .sizes) (task - 1));
+      start = chunkStart (o .blocksize) (tasks o) (entry (o .sizes));
+    }
 
 -- "and of each write only task number and length L"
 pub record Ask : Type 0 where
   pub task : ℕ
   pub L : ℕ
+
+abbrev pub askOf : Request → Ask
+askOf q = record { task = q .task; L = length (q .bytes) }
+
+abbrev pub asks : List Request → List Ask
+asks qs = map askOf qs
 
 -- "For each task it keeps u, the chunks begun, and w, the bytes in the last of them"
 pub record Tally : Type 0 where
@@ -97,3 +114,25 @@ abbrev pub held : ℕ → List Ask → List ℕ → ℕ
 held task [] numbers = 0
 held task (a ∷ asks) [] = 0
 held task (a ∷ asks) (number ∷ numbers) = cond (eqb (a .task) task && eqb number 0) (a .L) 0 + held task asks numbers
+
+-- "A task's requests are the writes that name it", and the answers to them among the answers to all
+abbrev pub own : ℕ → List Ask → List Ask
+own task [] = []
+own task (a ∷ asks) = cond (eqb (a .task) task) (a ∷ own task asks) (own task asks)
+
+abbrev pub ownAnswers : ℕ → List Ask → List ℕ → List ℕ
+ownAnswers task [] numbers = []
+ownAnswers task (a ∷ asks) [] = []
+ownAnswers task (a ∷ asks) (number ∷ numbers) =
+    cond (eqb (a .task) task) (number ∷ ownAnswers task asks numbers) (ownAnswers task asks numbers)
+
+-- where the tally puts the first byte of a write
+abbrev pub offsetIn : Plan → Book → Request → ℕ
+offsetIn p book q = offset p (q .task) (fateIn p book (askOf q)) (book (q .task))
+
+-- among these writes, told to the tally from this book on, is an accepted one of the task with a byte of this value at this offset
+pub data Lands (p : Plan) (task at value : ℕ) : Book → List Request → Type 0 where
+  here : {book : Book} {q : Request} {qs : List Request} → q .task ≡ task → answerTo (fateIn p book (askOf q)) ≡ 0
+      → (j : ℕ) → j < length (q .bytes) → at ≡ offsetIn p book q + j → value ≡ getD (q .bytes) j 0 → Lands p task at value book (q ∷ qs)
+  later : {book : Book} {q : Request} {qs : List Request} → Lands p task at value (told p book (askOf q)) qs
+      → Lands p task at value book (q ∷ qs)

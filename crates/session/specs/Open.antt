@@ -8,13 +8,13 @@ use lib.ListN.{length, replicate}
 use Rattle.endian.specs.Splice.{splice}
 use Rattle.layout.specs.Limits.{maxTasks, blocksizeRule, tasksRule, ranksRule, sizesRule, plannedRule}
 use Rattle.meta.specs.declared.head.Head.{Head}
-use Rattle.container.specs.declared.record.Session.{Session}
-use Rattle.container.specs.declared.record.Written.{Written}
+use Rattle.session.specs.declared.record.Session.{Session}
+use Rattle.session.specs.declared.record.Written.{Written}
 use Rattle.meta.specs.Refusals.{Test, test, firstFailing}
 use Rattle.meta.specs.Meta1.{prefixLength, openingBytes}
 use Rattle.meta.specs.Meta2.{unused}
 use Rattle.meta.specs.Heads.{entry, isOrder, tooShort, headOf}
-use Rattle.container.specs.Records.{sessionOf, noSession}
+use Rattle.session.specs.Records.{State, stateOf, sessionOf, noSession}
 
 -- what opening is given beside the image and the table
 pub record Opening : Type 0 where
@@ -71,3 +71,7 @@ module _ (o : Opening) where
 
     unfoldable pub openTable : List ℤ
     openTable = cond opens (splice table 0 (replicate (tasks * o .planned) unused)) table
+
+    -- the session, the image and the table as an opening hands them back
+    abbrev pub opened : State
+    opened = stateOf (openAnswer .session) openImage openTable

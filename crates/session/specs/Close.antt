@@ -6,14 +6,13 @@ use Prim.Native.Nat.{ℕ}
 use lib.Dec.{eqb}
 use Rattle.endian.specs.Below.{greatestBelow}
 use Rattle.endian.specs.Splice.{splice}
-use Rattle.container.specs.declared.record.Closed.{Closed}
-use Rattle.container.specs.declared.record.Session.{Session}
+use Rattle.session.specs.declared.record.Closed.{Closed}
+use Rattle.session.specs.declared.record.Session.{Session}
 use Rattle.meta.specs.Refusals.{firstFailing}
 use Rattle.meta.specs.Meta1.{lastAt, lastFields}
 use Rattle.meta.specs.Meta2.{meta2}
 use Rattle.meta.specs.Heads.{entry, cell, isBig, meta2At, endAt}
-use Rattle.container.specs.Records.{marked}
-use Rattle.container.specs.Write.{State, sessionTests}
+use Rattle.session.specs.Records.{State, sessionTests, marked}
 
 -- maxchunks: the greatest count
 unfoldable pub maxchunksOf : Session → ℕ

@@ -1,35 +1,23 @@
--- A session with its image and its table, and a write to it (document 01, "A write names a task ..."): its tests, where the bytes go,
--- and what an accepted write changes. It speaks of counts and cells; the tally of u and w stands in Tally.antt. Definitions only.
+-- A write to a session (document 01, "A write names a task ..."): its tests, where the bytes go, and what an accepted write changes; then
+-- lists of writes. It speaks of counts and cells, and knows nothing of the tally of u and w. Definitions only.
 use mathlib.Core.Bool.{cond, not, _&&_}
 use mathlib.Core.List.{List, [], _∷_, _++_}
 use Prim.Native.Nat.{ℕ, _+_, _-_}
 use lib.Dec.{ltb, leb, eqb}
-use lib.IntN.{ℤ, pos}
+use lib.IntN.{pos}
 use lib.ListN.{length, set}
 use Rattle.endian.specs.Signed.{natural}
 use Rattle.endian.specs.Splice.{splice}
-use Rattle.container.specs.declared.record.Session.{Session}
-use Rattle.container.specs.declared.record.Written.{Written}
+use Rattle.session.specs.declared.record.Written.{Written}
 use Rattle.meta.specs.Refusals.{Test, test, firstFailing}
 use Rattle.meta.specs.Meta2.{valueIndex}
-use Rattle.meta.specs.Heads.{entry, cell, holds, startOf}
-use Rattle.container.specs.Records.{sessionSound, recordTests, isTask, withCount}
-
-pub record State : Type 0 where
-  pub session : Session
-  pub image : List ℕ
-  pub table : List ℤ
+use Rattle.meta.specs.Heads.{entry, cell, holds, startOf, isTask}
+use Rattle.session.specs.Records.{State, sessionTests, withCount}
 
 -- the task is counted from 1
 pub record Request : Type 0 where
   pub task : ℕ
   pub bytes : List ℕ
-
--- "17, 18, 19"
-unfoldable pub sessionTests : State → List Test
-sessionTests st =
-    recordTests (st .session .closed) (sessionSound (st .session)) (st .session .head) (st .session .planned) (st .session .counts)
-    (st .image) (st .table)
 
 -- where bytes go: a chunk, counted from 1, and how many bytes stand in it before them
 pub record Spot : Type 0 where
@@ -87,3 +75,19 @@ module _ (st : State) (q : Request) where
 
   abbrev pub writeAnswer : Written
   writeAnswer = record { refusal = writeRefusal; session = afterWrite .session }
+
+-- ---- a list of writes, each to what the last one left: the state in the end, and the answers in order
+
+abbrev pub writes : State → List Request → State
+writes st [] = st
+writes st (q ∷ qs) = writes (afterWrite st q) qs
+
+abbrev pub refusals : State → List Request → List ℕ
+refusals st [] = []
+refusals st (q ∷ qs) = writeRefusal st q ∷ refusals (afterWrite st q) qs
+
+-- the bytes accepted from a task, in order, given the answers to the writes
+abbrev pub accepted : ℕ → List Request → List ℕ → List ℕ
+accepted task [] numbers = []
+accepted task (q ∷ qs) [] = []
+accepted task (q ∷ qs) (number ∷ numbers) = cond (eqb (q .task) task && eqb number 0) (q .bytes) [] ++ accepted task qs numbers

@@ -1,0 +1,4 @@
+pub mod Records
+pub mod Open
+pub mod Write
+pub mod Close
