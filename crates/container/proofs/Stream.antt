@@ -1,14 +1,14 @@
 -- Laws of a stream that is copied part by part: the parts copied so far, with the next one behind them, are one part of the stream; and
 -- of a task's stream: it has the length of its total, and each of its chunks may be read. Assumes nothing.
-use mathlib.Core.Path.{_≡_, refl, sym, ap, _∙_}
+use mathlib.Core.Path.{_≡_, sym, ap, _∙_}
 use mathlib.Core.List.{List, [], _∷_, _++_}
 use Prim.Native.Nat.{ℕ, zero, suc, _+_, _-_, _<_, _≤_, min}
 use native.Mathlib.Nat.{zero-add, min-le-left, sub-add-eq}
 use native.Mathlib.Omega.{arith}
 use lib.ListN.{length, take, drop, length-append, length-take, length-drop}
 use lib.Seq.{length-take-le, take-nil, drop-nil}
-use Rattle.endian.specs.Below.{sumBelow, joinBelow}
 use Rattle.endian.specs.Splice.{splice}
+use Rattle.endian.proofs.Below.{length-joined}
 use Rattle.endian.proofs.Splice.{length-splice, splice-next}
 use Rattle.endian.proofs.Signed.{within-holds}
 use Rattle.meta.specs.Refusals.{firstFailing}
@@ -86,12 +86,6 @@ module _ {ℓ} {A : Type ℓ} where
           left = k ∙ rw (so-far .left, length-append, sub-add-eq);
           filled = d ∙ rw (copied-same, so-far .left, so-far .filled, length-append, ← rest-sum) (filled-twice _ _ _);
         }
-
-  -- the length of lists put one after the other
-  length-joined : (f : ℕ → List A) (g : ℕ → ℕ) (n : ℕ) → ((i : ℕ) → i < n → length (f i) ≡ g i) → length (joinBelow n f) ≡ sumBelow n g
-  unfolding joinBelow sumBelow
-  length-joined f g zero h = refl
-  length-joined f g (suc n) h = rw (length-append, length-joined f g n (λ i l. h i (omega arith)), h n (omega arith))
 
 module _ (c : Container) (task : ℕ) (r : Readable c task) where
   pub chunk-length : (k : ℕ) → k < used c task → length (chunkBytes c task (k + 1)) ≡ writtenIn c task (k + 1)

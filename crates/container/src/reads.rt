@@ -2,24 +2,18 @@
 // Tasks and chunks are counted from 1.
 ghost use mathlib.Core.Path.{_≡_};
 ghost use Prim.Native.Nat.{_+_, _-_, _*_, _<_, _≤_, min};
-ghost use mathlib.Core.Bool.{true};
-ghost use lib.IntN.{pos};
-ghost use lib.ListN.{length, take, drop, getD};
-ghost use Rattle.endian.specs.Below.{sumBelow};
-ghost use Rattle.endian.specs.Signed.{within, natural};
+ghost use lib.ListN.{length, take, drop};
 ghost use Rattle.endian.specs.Splice.{splice};
-ghost use Rattle.layout.specs.Limits.{maxSize, maxBlocks};
 ghost use Rattle.meta.specs.Refusals.{firstFailing};
-ghost use Rattle.meta.specs.Meta2.{valueIndex};
-ghost use Rattle.meta.specs.Heads.{cell};
 ghost use Rattle.container.specs.declared.record.Loaded.{Loaded};
 ghost use Rattle.container.specs.declared.record.Counted.{Counted};
-ghost use Rattle.container.specs.Reads.{containerOf, readTests, used, chunkBytes, chunkRefusal, chunkPart, streamOf, totalOf, totalAnswer, readAnswer, readOutput};
+ghost use Rattle.container.specs.Reads.{containerOf, readTests, chunkBytes, chunkRefusal, chunkPart, streamOf, totalOf, totalAnswer, readAnswer, readOutput};
 use crate::record::Counted;
 use crate::record::Loaded;
 use crate::sound;
 use endian::store;
 use meta::refusal;
+use meta::second;
 
 // Tests 17, 18, 19 and 14.
 fn read_refusal(l: Loaded, image: &[u8], table: &[i64], task: u64) -> u32
@@ -38,18 +32,6 @@ fn read_refusal(l: Loaded, image: &[u8], table: &[i64], task: u64) -> u32
     0
 }
 
-// The bytes that a used cell says were written.
-fn written(table: &[i64], at: usize) -> u64
-    requires { ⌜ at < length (now table) ⌝ }
-    ensures { λ r. ⌜ r ≡ natural (cell (now (table .entry)) at) ⌝ }
-{
-    let value = table[at];
-    if value < 0 {
-        return 0;
-    }
-    value as u64
-}
-
 // The written bytes of a chunk that the tests allow.
 fn chunk_part<'a>(l: Loaded, image: &'a [u8], table: &[i64], task: u64, chunk: u64) -> &'a [u8]
     requires { ⌜ chunkRefusal (containerOf l (now image) (now table)) task chunk ≡ 0 ⌝ }
@@ -58,7 +40,7 @@ fn chunk_part<'a>(l: Loaded, image: &'a [u8], table: &[i64], task: u64, chunk: u
     let h = l.head;
     let start = layout::chunk_start(&h.sizes, h.n, h.blocksize, task, chunk) as usize;
     let at = (chunk - 1) as usize * h.n as usize + (task - 1) as usize;
-    let end = start + written(table, at) as usize;
+    let end = start + second::written(table, at) as usize;
     &image[start..end]
 }
 
@@ -102,7 +84,7 @@ fn total_of(l: Loaded, image: &[u8], table: &[i64], task: u64) -> u64
     let mut sum = 0;
     let mut k = 0;
     while k < count {
-        sum += written(table, at);
+        sum += second::written(table, at);
         at += n;
         k += 1;
     }

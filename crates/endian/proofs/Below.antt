@@ -10,8 +10,8 @@ use native.Mathlib.Numerals.{add-one}
 use native.Mathlib.Omega.{arith}
 use lib.Arith.{le-zero}
 use lib.Dec.{leb}
-use lib.ListN.{length, take, drop, getD, length-append, length-drop, List·getD-append}
-use lib.Seq.{take-all, take-suc, take-append-le, drop-at, drop-append-le, getD-at, getD-drop}
+use lib.ListN.{length, take, drop, getD, replicate, length-append, length-drop, length-replicate, getD-replicate, List·getD-append}
+use lib.Seq.{ext-getD, take-all, take-suc, take-append-le, drop-at, drop-append-le, getD-at, getD-drop}
 use borrow.Author.Tests.{leb-true, leb-false}
 use Rattle.endian.specs.Below.{allBelow, anyBelow, sumBelow, greatestBelow, joinBelow, listBelow}
 
@@ -185,6 +185,12 @@ module _ {ℓ} {A : Type ℓ} (f : ℕ → List A) where
   length-join zero w h = omega arith
   length-join (suc n) w h = rw (length-append, suc-mul, length-join n w (λ i l. h i (omega arith)), h n (omega arith))
 
+  -- of lists of any lengths
+  pub length-joined : (g : ℕ → ℕ) (n : ℕ) → ((i : ℕ) → i < n → length (f i) ≡ g i) → length (joinBelow n f) ≡ sumBelow n g
+  unfolding joinBelow sumBelow
+  length-joined g zero h = refl
+  length-joined g (suc n) h = rw (length-append, length-joined g n (λ i l. h i (omega arith)), h n (omega arith))
+
   pub part-join : (n w : ℕ) → ((i : ℕ) → i < n → length (f i) ≡ w) → (i : ℕ) → i < n → take w (drop (i * w) (joinBelow n f)) ≡ f i
   unfolding joinBelow
   part-join zero w h i l = absurd (not-suc-le-zero l)
@@ -215,6 +221,14 @@ module _ {ℓ} {A : Type ℓ} where
       (λ lt. List·getD-append (listBelow n f) (f n ∷ []) d i (omega arith) ∙ getD-list f n i d lt)
       (eq-or-lt-of-le (le-of-suc-le-suc l))
 
+  -- of one value, a repeat
+  pub list-replicate : (n : ℕ) (x : A) → listBelow n (λ i. x) ≡ replicate n x
+  list-replicate n x =
+      ext-getD x (listBelow n (λ i. x)) (replicate n x) (length-list (λ i. x) n ∙ sym (length-replicate n x))
+      (λ i l.
+      let h : i < n = rw length-list at l in
+      getD-list (λ i. x) n i x h ∙ sym (getD-replicate n i x x h))
+
   -- a part of a list is the list of its elements
   pub part-list : (n : ℕ) (xs : List A) (at : ℕ) (d : A) → at + n ≤ length xs → take n (drop at xs) ≡ listBelow n (λ i. getD xs (at + i) d)
   unfolding joinBelow
@@ -227,6 +241,14 @@ module _ {ℓ} {A : Type ℓ} where
   unfolding joinBelow
   join-cong f g zero h = refl
   join-cong f g (suc n) h = ap₂ _++_ (join-cong f g n (λ i l. h i (omega arith))) (h n (omega arith))
+
+  -- parts of two lists are the same by their elements
+  pub part-cong : (n at : ℕ) (xs ys : List A) (d : A) → at + n ≤ length xs → at + n ≤ length ys
+      → ((j : ℕ) → j < n → getD xs (at + j) d ≡ getD ys (at + j) d) → take n (drop at xs) ≡ take n (drop at ys)
+  part-cong n at xs ys d l m h =
+      part-list n xs at d l
+      ∙ join-cong (λ j. getD xs (at + j) d ∷ []) (λ j. getD ys (at + j) d ∷ []) n (λ j k. ap (λ (x : A). x ∷ []) (h j k))
+      ∙ sym (part-list n ys at d m)
 
 -- each depends on what stands below the number alone
 pub all-cong : (p q : ℕ → Bool) (n : ℕ) → ((i : ℕ) → i < n → p i ≡ q i) → allBelow n p ≡ allBelow n q

@@ -2,21 +2,25 @@
 -- Assumes nothing.
 use mathlib.Core.Path.{_≡_, refl, sym, ap, _∙_}
 use mathlib.Core.Bool.{Bool, true, false, cond, _&&_, and-false, false≢true}
-use mathlib.Core.List.{List}
+use mathlib.Core.List.{List, _++_, append-assoc}
 use Prim.Native.Nat.{ℕ, zero, suc, _+_, _-_, _*_, _^_, _<_, _≤_}
-use native.Mathlib.Nat.{pow-suc, mul-suc, le-antisymm}
+use native.Mathlib.Nat.{pow-suc, mul-suc, mul-comm, mul-le-mul-left, le-antisymm}
 use native.Mathlib.Omega.{arith}
 use lib.Arith.{comp-comp, comp-ge}
 use lib.Dec.{ltb, leb}
 use lib.IntN.{ℤ, pos, negsuc}
-use lib.ListN.{length}
+use lib.ListN.{length, take, drop}
 use lib.Pow.{pow-add}
+use lib.Seq.{take-at, drop-drop, drop-append-le}
 use lib.Signed.{mag}
 use borrow.Author.Tests.{lt-ltb, le-ltb, ltb-true, ltb-false, leb-true, le-leb, lt-leb, eqb-true, eq-eqb}
+use Rattle.endian.specs.Below.{joinBelow}
+use Rattle.endian.specs.Number.{number}
 use Rattle.endian.specs.Signed.{signed, bitsOf, signBit, signedAt, signedDigits, within, sameZ, natural}
 use Rattle.endian.specs.Splice.{splice}
-use Rattle.endian.proofs.Below.{and-left, and-right}
-use Rattle.endian.proofs.Number.{read-back}
+use Rattle.endian.proofs.Below.{and-left, and-right, length-join}
+use Rattle.endian.proofs.Number.{length-digits, number-digits, read-back}
+use Rattle.endian.proofs.Pieces.{drop-join}
 
 -- the lower and the upper half of the numbers of h + 1 bits
 pub signed-low : (h n : ℕ) → n < 2 ^ h → signed h n ≡ pos n
@@ -98,6 +102,32 @@ pub signed-read-back : (big : Bool) (w : ℕ) (z : ℤ) (xs : List ℕ) (at : �
 signed-read-back big w z xs at some fits l =
     ap (signed (signBit w)) (read-back big w (bitsOf (signBit w) z) xs at fits (rw (pow-signBit w some) at (bitsOf-lt (signBit w) z l)))
     ∙ signed-bitsOf (signBit w) z l
+
+-- n integers, one after the other
+pub length-numbers : (big : Bool) (w n : ℕ) (f : ℕ → ℤ) → length (joinBelow n (λ i. signedDigits big w (f i))) ≡ w * n
+length-numbers big w n f = length-join (λ i. signedDigits big w (f i)) n w (λ i l. length-digits big w _) ∙ mul-comm n w
+
+-- where its bytes stand an integer is read back, and so is each of n integers
+pub signed-there : (big : Bool) (w : ℕ) (z : ℤ) (xs rest : List ℕ) (at : ℕ) → 0 < w → drop at xs ≡ signedDigits big w z ++ rest
+    → mag z < 2 ^ signBit w → signedAt big w xs at ≡ z
+signed-there big w z xs rest at some e l =
+    let h : ℕ = signBit w in
+    ap (λ (s : List ℕ). signed h (number big s)) (ap (take w) e ∙ take-at (signedDigits big w z) rest w (length-digits big w (bitsOf h z)))
+    ∙ ap (signed h) (number-digits big w (bitsOf h z) (rw (pow-signBit w some) at (bitsOf-lt h z l))) ∙ signed-bitsOf h z l
+
+pub signed-listed : (big : Bool) (w n : ℕ) (f : ℕ → ℤ) (xs rest : List ℕ) (at : ℕ) → 0 < w
+    → drop at xs ≡ joinBelow n (λ i. signedDigits big w (f i)) ++ rest
+    → (i : ℕ) → i < n → mag (f i) < 2 ^ signBit w → signedAt big w xs (at + w * i) ≡ f i
+signed-listed big w n f xs rest at some e i l m =
+    let g : ℕ → List ℕ = λ j. signedDigits big w (f j) in
+    let same : (j : ℕ) → j < n → length (g j) ≡ w = λ j h. length-digits big w (bitsOf (signBit w) (f j)) in
+    let fits : w * i ≤ length (joinBelow n g) = rw (length-numbers big w n f) (mul-le-mul-left w (omega arith)) in
+    let tail : List ℕ = drop w (drop (i * w) (joinBelow n g)) in
+    signed-there big w (f i) xs (tail ++ rest) (at + w * i) some
+    (sym (drop-drop (w * i) at xs) ∙ ap (drop (w * i)) e ∙ drop-append-le (w * i) (joinBelow n g) rest fits
+    ∙ ap (λ (k : ℕ). drop k (joinBelow n g) ++ rest) (mul-comm w i)
+    ∙ ap (λ (s : List ℕ). s ++ rest) (drop-join g n w same i l) ∙ append-assoc (g i) tail rest)
+    m
 
 -- equality of integers, as the test has it
 pub sameZ-eq : (a b : ℤ) → sameZ a b ≡ true → a ≡ b

@@ -1,16 +1,17 @@
--- Laws of a splice: what it leaves at its place, before it and after it, splices of a part and next to each other, and stores one
--- after the other. Assumes nothing.
-use mathlib.Core.Path.{_≡_, refl, sym, ap, _∙_}
+-- Laws of a part of a list, and of a splice: what it leaves at its place, before it and after it, splices of a part and next to each
+-- other, and stores one after the other. Assumes nothing.
+use mathlib.Core.Path.{_≡_, refl, sym, ap, ap₂, _∙_}
 use mathlib.Core.List.{List, [], _∷_, _++_, append-assoc}
 use mathlib.Core.Logic.{_⊎_, ⊎-elim}
-use Prim.Native.Nat.{ℕ, zero, suc, _+_, _-_, _<_, _≤_}
-use native.Mathlib.Nat.{add-zero, zero-add, suc-add}
+use Prim.Native.Nat.{ℕ, zero, suc, _+_, _-_, _*_, _<_, _≤_}
+use native.Mathlib.Nat.{add-zero, zero-add, suc-add, mul-comm, le-refl}
 use native.Mathlib.Numerals.{add-one}
 use native.Mathlib.Omega.{arith}
 use lib.ListN.{length, take, drop, getD, set, length-append, length-drop, take-append-drop}
-use lib.Seq.{length-take-le, take-nil, take-take, take-at, take-append-seam, drop-at, drop-drop, drop-append-le, getD-take, getD-drop, set-split}
+use lib.Seq.{length-take-le, take-nil, take-take, take-at, take-add, take-append-seam, take-append-le, drop-at, drop-drop, drop-append-le}
+use lib.Seq.{getD-take, getD-drop, set-split}
 use Rattle.endian.specs.Below.{joinBelow, listBelow}
-use Rattle.endian.proofs.Below.{join-more, length-list}
+use Rattle.endian.proofs.Below.{join-more, length-join, length-list}
 use Rattle.endian.specs.Splice.{splice}
 
 module _ {ℓ} {A : Type ℓ} where
@@ -19,6 +20,15 @@ module _ {ℓ} {A : Type ℓ} where
   take-drop zero n l = ap (λ (k : ℕ). take k l) (sym (zero-add n))
   take-drop (suc b) n [] = take-nil n ∙ sym (ap (drop (suc b)) (take-nil (suc b + n)))
   take-drop (suc b) n (x ∷ xs) = take-drop b n xs ∙ ap (λ (k : ℕ). drop (suc b) (take k (x ∷ xs))) (sym (suc-add b n))
+
+  -- a part of the first elements of a list, whatever follows these
+  pub part-front : (b n len : ℕ) (xs tail : List A) → b + n ≤ len → len ≤ length xs
+      → take n (drop b (take len xs ++ tail)) ≡ take n (drop b xs)
+  part-front b n len xs tail h fits =
+      let l : length (take len xs) ≡ len = length-take-le len xs fits in
+      take-drop b n (take len xs ++ tail)
+      ∙ ap (drop b) (take-append-le (b + n) (take len xs) tail (omega arith) ∙ take-take (b + n) len xs h)
+      ∙ sym (take-drop b n xs)
 
   -- the n elements from `at` on, after a splice at their start, put back: one splice of the whole
   pub splice-part : (xs : List A) (at n : ℕ) (vs part : List A) → length vs ≤ n → at + n ≤ length xs
@@ -29,6 +39,12 @@ module _ {ℓ} {A : Type ℓ} where
       let h : length vs ≤ length (take n (drop at xs)) = omega arith in
       let rest = drop-append-le (length vs) (take n (drop at xs)) (drop n (drop at xs)) h in
       rw (e, zero-add, append-assoc vs, ← rest, take-append-drop, drop-drop)
+
+  -- the same of elements that were replaced whole
+  pub splice-whole : (xs : List A) (at : ℕ) (vs : List A) (n : ℕ) {part : List A} → part ≡ vs → length vs ≡ n
+      → take at xs ++ (part ++ drop n (drop at xs)) ≡ splice xs at vs
+  unfolding splice
+  splice-whole xs at vs n e l = rw (e, drop-drop, ← l)
 
   module _ (xs : List A) (at : ℕ) (vs : List A) (fits : at + length vs ≤ length xs) where
     front : length (take at xs) ≡ at
@@ -82,6 +98,27 @@ module _ {ℓ} {A : Type ℓ} where
         (λ l. sym (getD-take at (splice xs at vs) i d l) ∙ ap (λ (s : List A). getD s i d) take-splice ∙ getD-take at xs i d l)
         (λ l. simp (getD-drop, add-zero) at (ap (λ (s : List A). getD s 0 d) (splice-after i l)))
 
+  -- n elements put at the start, and what follows them
+  module _ (xs vs : List A) (n : ℕ) (long : length vs ≡ n) (fits : 0 + length vs ≤ length xs) where
+    pub splice-first : take n (splice xs 0 vs) ≡ vs
+    splice-first = ap (λ (k : ℕ). take k (splice xs 0 vs)) (sym long) ∙ splice-here xs 0 vs fits
+
+    pub splice-rest : drop n (splice xs 0 vs) ≡ drop n xs
+    splice-rest = splice-after xs 0 vs fits n (omega arith)
+
+  -- a splice at the start makes no list shorter
+  pub splice-longer : (xs vs : List A) → length xs ≤ length (splice xs 0 vs)
+  unfolding splice
+  splice-longer xs vs = simp (length-append, length-drop) (omega arith)
+
+  -- a part that ends where a splice begins grows by what is put
+  pub splice-grows : (xs : List A) (at i : ℕ) (vs : List A) → at + i + length vs ≤ length xs
+      → take (i + length vs) (drop at (splice xs (at + i) vs)) ≡ take i (drop at xs) ++ vs
+  splice-grows xs at i vs fits =
+      take-add i (length vs) (drop at (splice xs (at + i) vs))
+      ∙ ap₂ _++_ (splice-before xs (at + i) vs fits at i (le-refl (at + i)))
+      (ap (take (length vs)) (drop-drop i at (splice xs (at + i) vs)) ∙ splice-here xs (at + i) vs fits)
+
   -- two splices, the second where the first ends, are one
   pub splice-next : (xs : List A) (at : ℕ) (us vs : List A) → at + length us + length vs ≤ length xs
       → splice (splice xs at us) (at + length us) vs ≡ splice xs at (us ++ vs)
@@ -120,3 +157,43 @@ module _ {ℓ} {A : Type ℓ} where
       let e : 0 + length (listBelow i f) ≡ i = zero-add (length (listBelow i f)) ∙ length-list f i in
       rw (join-more (λ j. f j ∷ []) i)
       (rw e at (splice-set xs 0 (listBelow i f) (f i) (rw e l)))
+
+  -- xs became ys when vs were put at `at`, and these end at `end`
+  abbrev pub Put : List A → ℕ → List A → List A → ℕ → Type ℓ
+  Put xs at vs ys end = (ys ≡ splice xs at vs) × (end ≡ at + length vs)
+
+  module _ (xs : List A) (at : ℕ) where
+    -- no elements, the same elements, and two lists of them, the second where the first ends
+    pub put-none : Put xs at [] xs at
+    unfolding splice
+    put-none = (rw add-zero (sym (take-append-drop at xs)), omega arith)
+
+    pub put-is : {us vs ys : List A} {end : ℕ} → us ≡ vs → Put xs at us ys end → Put xs at vs ys end
+    put-is e p = rw e at p
+
+    pub put-next : (us vs : List A) {ys zs : List A} {mid end : ℕ} → Put xs at us ys mid → Put ys mid vs zs end → end ≤ length xs
+        → Put xs at (us ++ vs) zs end
+    put-next us vs p q fits =
+        let both = splice-next xs at us vs (omega (arith, p .1, q .1)) in
+        (q .0 ∙ rw (p .0, p .1) both, rw length-append (omega (arith, p .1, q .1)))
+
+    -- a store, and one more, of so many elements
+    pub put-first : (vs : List A) (w : ℕ) {ys : List A} → length vs ≡ w → ys ≡ splice xs at vs → Put xs at vs ys (at + w)
+    put-first vs w l e = (e, rw l)
+
+    pub put-then : (us vs : List A) (w : ℕ) {ys zs : List A} {mid : ℕ} → Put xs at us ys mid → length vs ≡ w → zs ≡ splice ys mid vs
+        → mid + w ≤ length xs → Put xs at (us ++ vs) zs (mid + w)
+    put-then us vs w p l e fits = put-next us vs p (e, rw l) fits
+
+    -- the first i of numbered lists, each of w elements: none, and one more
+    module _ (w : ℕ) (f : ℕ → List A) (same : (j : ℕ) → length (f j) ≡ w) where
+      pub put-join : {ys : List A} (i : ℕ) → ys ≡ splice xs at (joinBelow i f) → Put xs at (joinBelow i f) ys (at + w * i)
+      put-join i e = (e, rw (length-join f i w (λ j h. same j), mul-comm i w))
+
+      pub join-none : xs ≡ splice xs at (joinBelow 0 f)
+      unfolding joinBelow
+      join-none = put-none .0
+
+      pub join-then : {ys zs : List A} (i : ℕ) → ys ≡ splice xs at (joinBelow i f) → zs ≡ splice ys (at + w * i) (f i)
+          → at + w * i + w ≤ length xs → zs ≡ splice xs at (joinBelow (i + 1) f)
+      join-then i e g fits = rw (join-more f i) (put-then (joinBelow i f) (f i) w (put-join i e) (same i) g fits .0)

@@ -7,7 +7,7 @@ ghost use lib.IntN.{pos};
 ghost use lib.ListN.{length, getD};
 ghost use Rattle.endian.specs.Below.{allBelow};
 ghost use Rattle.endian.specs.Signed.{within, sameZ};
-ghost use Rattle.layout.specs.Limits.{tasksRule, blocksizeRule, maxchunksRule, allDifferent, ranksRule, sizesRule};
+ghost use Rattle.layout.specs.Limits.{tasksRule, blocksizeRule, plannedRule, maxchunksRule, allDifferent, ranksRule, sizesRule};
 
 pub const MAX_TASKS: usize = 64;
 
@@ -37,6 +37,12 @@ pub fn tasks_ok(n: u32) -> bool
     ensures { λ r. ⌜ r ≡ tasksRule (pos n) ⌝ }
 {
     1 <= n && n as usize <= MAX_TASKS
+}
+
+pub fn planned_ok(planned: u32) -> bool
+    ensures { λ r. ⌜ r ≡ plannedRule (pos planned) ⌝ }
+{
+    1 <= planned && planned <= MAX_BLOCKS
 }
 
 pub fn maxchunks_ok(maxchunks: u32) -> bool

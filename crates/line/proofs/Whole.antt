@@ -24,7 +24,7 @@ use Rattle.container.specs.Reads.{containerOf}
 use Rattle.container.proofs.LoadTests.{load-holds}
 use Rattle.container.proofs.Refusing.{load-number}
 use Rattle.line.specs.Line.{decimal, space, spaced, cells, totalsOf, loaded, rest, lineOf}
-use Rattle.line.proofs.Text.{Put, put-is}
+use Rattle.endian.proofs.Splice.{Put, put-is}
 
 -- an accepted container has no more than the most tasks
 pub few-tasks : (image : List ℕ) (table : List ℤ) (answer : Checked) → answer ≡ loadAnswer image table → answer .refusal ≡ 0

@@ -27,11 +27,14 @@ module _ (h : Head) (e : headSound h ≡ true) where
   pub head-tasks : (1 ≤ h .n) × (h .n ≤ maxTasks)
   head-tasks = tasks-facts (h .n) (and-right (isOrder (h .order) && blocksizeRule (pos (h .blocksize))) _ fixed-kept)
 
+  pub head-block : blocksizeRule (pos (h .blocksize)) ≡ true
+  head-block = and-right (isOrder (h .order)) _ (and-left _ (tasksRule (pos (h .n))) fixed-kept)
+
   -- a head's lists have an entry for each of the most tasks
   pub head-kept : length (h .sizes) ≡ maxTasks → Sound (h .blocksize) (h .n) (h .sizes)
   unfolding headSound
   head-kept long = record {
-    block = and-right (isOrder (h .order)) _ (and-left _ (tasksRule (pos (h .n))) fixed-kept);
+    block = head-block;
     tasks = head-tasks .1;
     listed = omega (arith, head-tasks);
     sized =

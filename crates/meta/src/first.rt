@@ -29,29 +29,33 @@ pub struct First {
 pub const MARK: [u8; 4] = *b"sion";
 
 // Where the fields stand that every META1 has at the same place, and the one value that three of them have.
-const ORDER_AT: usize = 4;
+pub const ORDER_AT: usize = 4;
 
-const VERSION_AT: usize = 8;
+pub const VERSION_AT: usize = 8;
 
-const PATCH_AT: usize = 12;
+pub const PATCH_AT: usize = 12;
 
-const FORMAT_AT: usize = 16;
+pub const FORMAT_AT: usize = 16;
 
-const BLOCKSIZE_AT: usize = 20;
+pub const BLOCKSIZE_AT: usize = 20;
 
-const TASKS_AT: usize = 24;
+pub const TASKS_AT: usize = 24;
 
-const FILES_AT: usize = 28;
+pub const FILES_AT: usize = 28;
 
-const FILE_NUMBER_AT: usize = 32;
+pub const FILE_NUMBER_AT: usize = 32;
 
-const RANKS_AT: usize = 1076;
+pub const FLAGS_AT: usize = 36;
 
-const FORMAT: u32 = 3;
+pub const PREFIX_AT: usize = 52;
 
-const FILES: u32 = 1;
+pub const RANKS_AT: usize = 1076;
 
-const FILE_NUMBER: u32 = 0;
+pub const FORMAT: u32 = 3;
+
+pub const FILES: u32 = 1;
+
+pub const FILE_NUMBER: u32 = 0;
 
 // The bytes before the ranks.
 const FIXED: u64 = 1076;

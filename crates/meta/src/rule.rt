@@ -10,7 +10,8 @@ ghost use Rattle.meta.specs.Heads.{headSound};
 use crate::head::Head;
 use layout::limit;
 
-fn greatest(values: &[u64], n: usize) -> u64
+// The greatest of the first n, 0 where n is 0.
+pub fn greatest(values: &[u64], n: usize) -> u64
     requires { ⌜ n ≤ length (now values) ⌝ }
     ensures { λ r. ⌜ r ≡ greatestBelow n (λ i. getD (now (values .entry)) i 0) ⌝ }
 {

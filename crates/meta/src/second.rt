@@ -1,20 +1,20 @@
 // META2, the second metadata block: its counts and values judged from its own part of the image, its values put into a table, and the
 // same rule for the cells of a table.
 ghost use mathlib.Core.Path.{_≡_};
-ghost use Prim.Native.Nat.{_+_, _*_, _≤_};
+ghost use Prim.Native.Nat.{_+_, _*_, _<_, _≤_};
 ghost use lib.Dec.{ltb};
 ghost use lib.IntN.{pos};
 ghost use lib.ListN.{length, getD};
 ghost use Rattle.endian.specs.Below.{allBelow, listBelow};
-ghost use Rattle.endian.specs.Signed.{signedAt};
+ghost use Rattle.endian.specs.Signed.{signedAt, natural};
 ghost use Rattle.endian.specs.Splice.{splice};
-ghost use Rattle.layout.specs.Limits.{maxBlocks, Sound};
+ghost use Rattle.layout.specs.Limits.{maxBlocks, maxSize, Sound};
 ghost use Rattle.layout.specs.Areas.{capacity, meta2Length};
 ghost use Rattle.meta.specs.declared.head.Head.{Head};
 ghost use Rattle.meta.specs.declared.second.Second.{Second};
 ghost use Rattle.meta.specs.Meta2.{valueRule, valuesRule, valueField};
-ghost use Rattle.meta.specs.Heads.{entry, holds, cellsAgree};
-ghost use Rattle.meta.specs.Judge.{noSecond, secondOf};
+ghost use Rattle.meta.specs.Heads.{entry, cell, holds, cellsAgree};
+ghost use Rattle.meta.specs.Judge.{secondOf};
 use crate::first;
 use crate::head::Head;
 use crate::refusal;
@@ -166,4 +166,24 @@ pub fn cells_ok(table: &[i64], h: Head, counts: &[u64], m: u32) -> bool
         k += 1;
     }
     true
+}
+
+// The bytes that a used cell says were written.
+pub fn written(table: &[i64], at: usize) -> u64
+    requires { ⌜ at < length (now table) ⌝ }
+    ensures { λ r. ⌜ r ≡ natural (cell (now (table .entry)) at) ⌝ }
+{
+    let bytes = table[at];
+    if bytes < 0 {
+        return 0;
+    }
+    bytes as u64
+}
+
+// The cell that says so many bytes were written.
+pub fn cell_of(bytes: u64) -> i64
+    requires { ⌜ bytes ≤ maxSize ⌝ }
+    ensures { λ r. ⌜ r ≡ pos bytes ⌝ }
+{
+    bytes as i64
 }

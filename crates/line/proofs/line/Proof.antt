@@ -6,7 +6,7 @@ use lib.IntN.{pos}
 use lib.ListN.{length, replicate}
 use Rattle.container.specs.Reads.{containerOf}
 use Rattle.line.specs.Line.{cells, decimal, space, spaced, totalsOf}
-use Rattle.line.proofs.Text.{put-next}
+use Rattle.endian.proofs.Splice.{put-next}
 use Rattle.line.proofs.Whole.{few-tasks, line-put, refused-line, accepted-line}
 use borrow.Author.Needs.{needs}
 use Rattle.line.proofs.line.Statement.{statement}

@@ -10,7 +10,8 @@ use Rattle.endian.specs.Below.{listBelow, joinBelow}
 use Rattle.container.specs.declared.record.Counted.{Counted}
 use Rattle.container.specs.Reads.{Container, containerOf, totalAnswer}
 use Rattle.line.specs.Line.{space, decimal, spaced, totalsOf}
-use Rattle.line.proofs.Text.{Put, put-none, put-is, put-next, spaced-more}
+use Rattle.endian.proofs.Splice.{Put, put-none, put-is, put-next}
+use Rattle.line.proofs.Text.{spaced-more}
 use borrow.Author.Needs.{needs}
 use Rattle.line.proofs.put_totals.Statement.{statement}
 use Rattle.line.proofs.put_totals.Tie as tie

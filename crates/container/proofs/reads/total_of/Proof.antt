@@ -16,7 +16,7 @@ use Rattle.container.proofs.reads.total_of.Statement.{statement}
 use Rattle.container.proofs.reads.total_of.Tie as tie
 use Rattle.container.proofs.reads.total_of.Reads as reads
 use Rattle.container.proofs.reads.total_of.Lts as lts
-use Rattle.container.proofs.reads.written.Reads as written-reads
+use Rattle.meta.proofs.second.written.Reads as written-reads
 
 abbrev Inv-loop : tie.InvT-loop
 Inv-loop image table task n i count at₀ sum₀ k₀ at sum k =

@@ -1,4 +1,4 @@
--- `container::reads::written` meets its contract, by the sign of the cell. A signed cell is what the machine reads back from its bits.
+-- `meta::second::written` meets its contract, by the sign of the cell. A signed cell is what the machine reads back from its bits.
 -- Assumes nothing.
 use mathlib.Core.Path.{_≡_, refl}
 use mathlib.Core.Bool.{true, false}
@@ -11,10 +11,10 @@ use mir.Val.{SFits}
 use borrow.Author.Needs.{needs, sfits-of}
 use borrow.Author.Tests.{ltb-true}
 use Rattle.endian.specs.Signed.{natural}
 use Rattle.meta.specs.Heads.{cell}
 use Rattle.meta.proofs.Values.{value-casts}
-use Rattle.container.proofs.reads.written.Statement.{statement}
-use Rattle.container.proofs.reads.written.Tie as tie
+use Rattle.meta.proofs.second.written.Statement.{statement}
+use Rattle.meta.proofs.second.written.Tie as tie
 
 natural-negative : (z : ℤ) → ltZ z (pos 0) ≡ true → 0 ≡ natural z
 natural-negative (pos n) l = absurd (omega (arith, ltb-true n 0 l))
@@ -24,33 +24,33 @@ natural-positive : (z : ℤ) → ltZ z (pos 0) ≡ false → natAbs z ≡ natura
 natural-positive (pos n) l = refl
 natural-positive (negsuc n) l = cc
 
-mul-value : tie.Need-mul-value
-mul-value c = search needs
+mul-bytes : tie.Need-mul-bytes
+mul-bytes c = search needs
 
-shared-slice-copy-out-value : tie.Need-shared-slice-copy-out-value
-shared-slice-copy-out-value c = search needs
+shared-slice-copy-out-bytes : tie.Need-shared-slice-copy-out-bytes
+shared-slice-copy-out-bytes c = search needs
 
 returns : tie.Need-returns
 returns c =
     let a = c .before .before .args in
     let z : ℤ = cell (a .table .now) (a .at) in
-    let f : SFits w64 z = sfits-of (c .before .value .given) in
+    let f : SFits w64 z = sfits-of (c .before .bytes .given) in
     natural-negative z (rw (toZ-ofZ f) at (c .if1 .taken))
 
 cast-result : tie.Need-cast-result
 cast-result c =
     let a = c .before .before .args in
     let z : ℤ = cell (a .table .now) (a .at) in
-    let f : SFits w64 z = sfits-of (c .before .value .given) in
+    let f : SFits w64 z = sfits-of (c .before .bytes .given) in
     rw (toZ-ofZ f) (value-casts z f (rw (toZ-ofZ f) at (c .if1 .left)))
 
 returns-2 : tie.Need-returns-2
 returns-2 c =
     let a = c .before .before .args in
     let z : ℤ = cell (a .table .now) (a .at) in
-    let f : SFits w64 z = sfits-of (c .before .value .given) in
+    let f : SFits w64 z = sfits-of (c .before .bytes .given) in
     rw (toZ-ofZ f) (natural-positive z (rw (toZ-ofZ f) at (c .if1 .left)))
 
 pub written-spec : {M : Type 1} → statement M
 written-spec =
-    tie.close (tie.spec mul-value shared-slice-copy-out-value returns cast-result returns-2)
+    tie.close (tie.spec mul-bytes shared-slice-copy-out-bytes returns cast-result returns-2)

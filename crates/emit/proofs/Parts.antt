@@ -1,0 +1,99 @@
+-- The parts of META1 that are stored together: how long each is, and that one after the other they are what opening stores.
+-- Assumes nothing.
+use mathlib.Core.Path.{_≡_, refl, ap, ap₂, sym, _∙_}
+use mathlib.Core.Bool.{Bool, true, false}
+use mathlib.Core.List.{List, [], _∷_, _++_, flatten, append-assoc, append-nil}
+use Prim.Native.Nat.{ℕ, _+_, _-_, _*_, _≤_}
+use native.Mathlib.Omega.{arith}
+use lib.IntN.{ℤ, pos}
+use lib.ListN.{length, replicate, length-append, length-replicate, replicate-append-replicate}
+use mir.Facts.{toZ-ofZ}
+use mir.Syntax.{Width}
+use mir.Val.{SFits, toZ, ofZ}
+use Rattle.endian.specs.Below.{joinBelow}
+use Rattle.endian.specs.Signed.{signedDigits}
+use Rattle.endian.specs.Splice.{splice}
+use Rattle.endian.proofs.Number.{length-digits}
+use Rattle.layout.specs.Limits.{blocksizeRule}
+use Rattle.layout.specs.Areas.{meta1End, dataStart}
+use Rattle.layout.proofs.Chunks.{meta1-before-data}
+use Rattle.layout.proofs.Power.{blocksize-facts}
+use Rattle.meta.specs.declared.head.Head.{Head}
+use Rattle.meta.specs.Heads.{entry, isBig}
+use Rattle.meta.specs.Meta1.{prefixLength, fixedLength, lastAt, padded, lastFields, meta1Front, meta1, openingBytes}
+use Rattle.emit.specs.Parts.{versions, shape}
+
+-- a signed number is stored as what the machine reads back from its bits, which is the number
+pub store-signed : (ys : List ℕ) (at : ℕ) (big : Bool) (w : Width) (n : ℕ) {z : ℤ} → SFits w z
+    → splice ys at (signedDigits big n (toZ w (ofZ w z))) ≡ splice ys at (signedDigits big n z)
+store-signed ys at big w n f = ap (λ (z : ℤ). splice ys at (signedDigits big n z)) (toZ-ofZ f)
+
+-- ---- lengths
+
+pub length-versions : (big : Bool) (version patch : ℤ) → length (versions big version patch) ≡ 20
+unfolding versions
+length-versions big version patch = simp (length-append, length-digits)
+
+pub length-shape : (big : Bool) (blocksize n : ℕ) → length (shape big blocksize n) ≡ 32
+unfolding shape
+length-shape big blocksize n = simp (length-append, length-digits)
+
+pub length-padded : (prefix : List ℕ) → length prefix ≤ prefixLength → length (padded prefix) ≡ prefixLength
+length-padded prefix l = simp (length-append, length-replicate) (omega arith)
+
+pub length-fixed : (h : Head) (big : Bool) (prefix : List ℕ) → length prefix ≤ prefixLength
+    → length ((versions big (h .version) (h .patch) ++ shape big (h .blocksize) (h .n)) ++ padded prefix) ≡ fixedLength
+length-fixed h big prefix l =
+    simp length-append
+    (rw (length-versions big (h .version) (h .patch), length-shape big (h .blocksize) (h .n)) (omega (arith, simp length-append at (length-padded prefix l))))
+
+-- META1 ends before D
+pub opening-fits : (b n : ℕ) → blocksizeRule (pos b) ≡ true → lastAt n + 12 ≤ dataStart b n
+unfolding meta1End
+opening-fits b n e = omega (arith, meta1-before-data b n (let f = blocksize-facts b e in omega arith))
+
+-- ---- what opening stores
+
+-- fields that are 0, as zeros
+flags-zero : (big : Bool) → signedDigits big 8 (pos 0) ++ signedDigits big 8 (pos 0) ≡ replicate 16 0
+flags-zero true = refl
+flags-zero false = refl
+
+last-zero : (big : Bool) → lastFields big 0 0 ≡ replicate 12 0
+unfolding lastFields
+last-zero true = refl
+last-zero false = refl
+
+-- the pieces of META1's front, grouped as they are stored
+regroup : (a b c d e f g k l m n z o p q : List ℕ) → m ++ n ≡ z
+    → ((((((((a ++ b) ++ c) ++ d) ++ e) ++ ((((f ++ g) ++ k) ++ l) ++ z)) ++ o) ++ p) ++ q)
+    ≡ flatten (a ∷ b ∷ c ∷ d ∷ e ∷ f ∷ g ∷ k ∷ l ∷ m ∷ n ∷ o ∷ p ∷ q ∷ [])
+unfolding flatten
+regroup a b c d e f g k l m n z o p q flags = rw (← flags) (simp (append-assoc, append-nil))
+
+module _ (h : Head) (prefix : List ℕ) where
+  -- the fields before the prefix in two groups, the prefix and both lists
+  front-parts :
+      (((versions (isBig h) (h .version) (h .patch) ++ shape (isBig h) (h .blocksize) (h .n)) ++ padded prefix)
+      ++ joinBelow (h .n) (λ i. signedDigits (isBig h) 8 (pos (entry (h .ranks) i))))
+      ++ joinBelow (h .n) (λ i. signedDigits (isBig h) 8 (pos (entry (h .sizes) i)))
+      ≡ meta1Front h prefix
+  unfolding versions shape meta1Front
+  front-parts = regroup _ _ _ _ _ _ _ _ _ _ _ _ _ _ _ (flags-zero (isBig h))
+
+  -- and then zeros from one store: the last two fields and all up to D
+  pub opening-parts : lastAt (h .n) + 12 ≤ dataStart (h .blocksize) (h .n)
+      → ((((versions (isBig h) (h .version) (h .patch) ++ shape (isBig h) (h .blocksize) (h .n)) ++ padded prefix)
+      ++ joinBelow (h .n) (λ i. signedDigits (isBig h) 8 (pos (entry (h .ranks) i))))
+      ++ joinBelow (h .n) (λ i. signedDigits (isBig h) 8 (pos (entry (h .sizes) i))))
+      ++ replicate (dataStart (h .blocksize) (h .n) - lastAt (h .n)) 0
+      ≡ openingBytes h prefix
+  unfolding openingBytes meta1 meta1End
+  opening-parts fits =
+      let d : ℕ = dataStart (h .blocksize) (h .n) in
+      let k : ℕ = d - (1088 + 16 * h .n) in
+      let split : d - lastAt (h .n) ≡ 12 + k = omega arith in
+      let zeros : replicate (d - lastAt (h .n)) 0 ≡ lastFields (isBig h) 0 0 ++ replicate k 0 =
+      ap (λ (m : ℕ). replicate m 0) split ∙ sym (replicate-append-replicate 12 k 0)
+      ∙ ap (λ (l : List ℕ). l ++ replicate k 0) (sym (last-zero (isBig h))) in
+      ap₂ _++_ front-parts zeros ∙ sym (append-assoc (meta1Front h prefix) (lastFields (isBig h) 0 0) (replicate k 0))

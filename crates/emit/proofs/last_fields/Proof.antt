@@ -1,0 +1,45 @@
+-- `last_fields` meets its contract: two stores, the second where the first ends.
+use native.Mathlib.Omega.{arith}
+use borrow.Author.Needs.{needs}
+use Rattle.endian.specs.Number.{digits}
+use Rattle.endian.proofs.Number.{length-digits}
+use Rattle.endian.proofs.Splice.{put-first, put-then}
+use Rattle.layout.specs.Areas.{meta1End}
+use Rattle.meta.specs.Meta1.{lastAt, lastFields}
+use Rattle.emit.proofs.last_fields.Statement.{statement}
+use Rattle.emit.proofs.last_fields.Tie as tie
+
+mul-at : tie.Need-mul-at
+mul-at c = search needs
+
+add-at : tie.Need-add-at
+add-at c = search needs
+
+put-u32-requires : tie.Need-put-u32-requires
+unfolding meta1End
+put-u32-requires c κs = search needs
+
+add-put-u64 : tie.Need-add-put-u64
+add-put-u64 c = search needs
+
+put-u64-requires : tie.Need-put-u64-requires
+unfolding meta1End
+put-u64-requires c κs = search needs
+
+same-length : tie.Need-same-length
+same-length c = search needs
+
+returns : tie.Need-returns
+unfolding lastFields meta1End
+returns c =
+    let z = c .before .before .before .before .before .before .before .before .before in
+    let a = z .args in
+    let xs = a .image .now in
+    let maxchunks = put-first xs (lastAt (a .n)) (digits (a .big) 4 (a .maxchunks)) 4 (length-digits (a .big) 4 _) (c .before .before .before .before .before .before .put-u32 .ensures) in
+    put-then xs (lastAt (a .n)) _ (digits (a .big) 8 (a .start)) 8 maxchunks (length-digits (a .big) 8 _) (c .before .before .put-u64 .ensures)
+    (omega (arith, z .pre)) .0
+
+pub last-fields-spec : {M : Type 1} → statement M
+last-fields-spec =
+    tie.close
+    (tie.spec mul-at add-at put-u32-requires add-put-u64 put-u64-requires same-length returns)
