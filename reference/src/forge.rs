@@ -177,7 +177,7 @@ impl Container {
     }
 }
 
-/// The full container of the benchmark: 64 tasks with 32 full chunks of 512 bytes, about 1 MiB.
+/// The full container of `./bench`: 64 tasks with 32 full chunks of 512 bytes, about 1 MiB.
 pub fn bench() -> Vec<u8> {
     let mut plan = Plan::new(Order::Little, &[512; 64]);
     plan.k = 32;

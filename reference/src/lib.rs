@@ -1,6 +1,7 @@
-//! Holds the second implementation of document 01: opening, filling, closing, loading and reading one container.
+//! Holds the second implementation of document 01: opening, filling, closing, loading and reading one container; and a generator for tests.
 
 mod bytes;
+mod generator;
 mod layout;
 mod load;
 mod read;
@@ -11,6 +12,7 @@ mod tally;
 mod tests;
 
 pub use bytes::Order;
+pub use generator::Rng;
 pub use layout::{meta1_end, Layout, FORMAT, MARK};
 pub use load::load;
 pub use read::{chunk, read, total};

@@ -1,7 +1,7 @@
 //! Holds the random containers: sound ones of random plans, and damaged ones, all fixed by the seed.
 
 use crate::forge::{Container, Field, Plan};
-use reference::Order;
+use reference::{Order, Rng};
 
 /// The bounds of the rules and of the number formats; fields are set to these or one more or less.
 const BOUNDS: [i64; 12] =
@@ -9,37 +9,8 @@ const BOUNDS: [i64; 12] =
 
 /// The containers of a seed with their names.
 pub fn all(seed: u64, count: u32) -> impl Iterator<Item = (String, Vec<u8>)> {
-    let mut rng = Rng(seed);
+    let mut rng = Rng::new(seed);
     (0..count).map(move |i| (format!("{i:05}.sion"), container(&mut rng)))
-}
-
-/// Splitmix64.
-struct Rng(u64);
-
-impl Rng {
-    fn next(&mut self) -> u64 {
-        self.0 = self.0.wrapping_add(0x9e37_79b9_7f4a_7c15);
-        let z = (self.0 ^ (self.0 >> 30)).wrapping_mul(0xbf58_476d_1ce4_e5b9);
-        let z = (z ^ (z >> 27)).wrapping_mul(0x94d0_49bb_1331_11eb);
-        z ^ (z >> 31)
-    }
-
-    /// A number from 0 up to, not including, the bound.
-    fn below(&mut self, bound: usize) -> usize {
-        (self.next() % bound.max(1) as u64) as usize
-    }
-
-    fn one_in(&mut self, times: usize) -> bool {
-        self.below(times) == 0
-    }
-
-    fn pick<T: Copy>(&mut self, list: &[T]) -> T {
-        list[self.below(list.len())]
-    }
-
-    fn bytes(&mut self, length: usize) -> Vec<u8> {
-        (0..length).map(|_| self.next() as u8).collect()
-    }
 }
 
 fn container(rng: &mut Rng) -> Vec<u8> {
@@ -98,12 +69,12 @@ fn plan(rng: &mut Rng) -> Plan {
     if n < 5 && plan.k < 4 && rng.one_in(5) {
         plan.blocksize = 512 << rng.below(4);
     }
-    plan.version = rng.next() as i32 >> rng.below(32);
-    plan.patch = rng.next() as i32 >> rng.below(32);
+    plan.version = rng.number() as i32 >> rng.below(32);
+    plan.patch = rng.number() as i32 >> rng.below(32);
     plan.ranks = ranks(rng, n);
     let length = rng.pick(&[0, 1, 20, 1023, 1024]);
     plan.prefix = rng.bytes(length);
-    plan.background = if rng.one_in(2) { 0 } else { rng.next() as u8 };
+    plan.background = if rng.one_in(2) { 0 } else { rng.number() as u8 };
     plan
 }
 
@@ -147,7 +118,7 @@ fn request(rng: &mut Rng, plan: &Plan) -> (u64, Vec<u8>) {
 fn extended(rng: &mut Rng, sound: Container) -> Container {
     let more = sound.bytes.len() + 1 + rng.below(300);
     let length = if rng.one_in(12) { rng.pick(&[65_535, 65_536, 65_537]).max(more) } else { more };
-    sound.padded(length, rng.next() as u8)
+    sound.padded(length, rng.number() as u8)
 }
 
 /// Cut near a place that a test looks at, or anywhere.

@@ -1,16 +1,30 @@
--- The two demands of loading and reading hold. Assumes nothing.
+-- The three demands hold. Assumes nothing.
 use mathlib.Core.Path.{sym, _∙_}
 use lib.ListN.{length}
-use Rattle.container.specs.Demands.{Demands}
-use Rattle.container.proofs.Refusing.{load-number, load-refuses, reads-refuse}
+use Rattle.room.proofs.Follows.{passes, runs}
+use Rattle.room.proofs.Opened.{opened-follows}
+use Rattle.container.specs.Demands.{Refusals, Format, Demands}
+use Rattle.container.proofs.Refusing.{load-number, load-refuses, reads-refuse, open-number, open-refuses, write-refuses, close-refuses}
 use Rattle.container.proofs.Only.{only}
 use Rattle.container.proofs.Every.{every, says}
 use Rattle.container.proofs.ReadsBack.{reads-back, refuses-back}
+use Rattle.container.proofs.Stores.{opening-stores, close-stores}
+use Rattle.container.proofs.WrittenBack.{written-back}
+use Rattle.container.proofs.Rooms.{room}
 
-pub demands : Demands
-demands = record {
+refusals : Refusals
+refusals = record {
   load-refuses = load-refuses;
   reads-refuse = reads-refuse;
+  open-refuses = open-refuses;
+  write-refuses = write-refuses;
+  close-refuses = close-refuses;
+  alive =
+      λ o image table e qs. passes (runs (opened-follows o image table (sym (open-number o image table) ∙ e)) qs .follows);
+}
+
+format : Format
+format = record {
   accepts-exactly =
       λ image table. record {
         only = λ e. only image (length table) (sym (load-number image table) ∙ e);
@@ -21,4 +35,14 @@ demands = record {
       λ image table c e. reads-back image (c .says) (c .first) (c .second) table (sym (load-number image table) ∙ e);
   refuses-back =
       λ image table c e. refuses-back image (c .says) (c .first) (c .second) table (sym (load-number image table) ∙ e);
+  opening-stores = opening-stores;
+  close-stores = close-stores;
+  written-back = written-back;
+}
+
+pub demands : Demands
+demands = record {
+  refusals = refusals;
+  format = format;
+  room = λ o image table e. room o image table (sym (open-number o image table) ∙ e);
 }

@@ -38,7 +38,7 @@ abbrev pub headSaid : Contents → Head
 headSaid s = headOf (orderOf (s .big)) (s .version) (s .patch) (s .blocksize) (s .n) (s .rank) (s .size)
 
 -- a filled list, entry by entry
-lists-filled : (n : ℕ) (f : ℕ → ℕ) (xs : List ℕ) → n ≤ maxTasks → xs ≡ filled n f → Lists n f xs
+pub lists-filled : (n : ℕ) (f : ℕ → ℕ) (xs : List ℕ) → n ≤ maxTasks → xs ≡ filled n f → Lists n f xs
 lists-filled n f xs few e = record {
   entries = λ i l. rw e (entry-filled n f i few l);
   zeros = λ i l h. rw e (entry-past n f i l h);

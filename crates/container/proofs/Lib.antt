@@ -8,4 +8,9 @@ pub mod Records
 pub mod Readable
 pub mod Stream
 pub mod ReadsBack
+pub mod Stores
+pub mod ClosedParts
+pub mod Closed
+pub mod WrittenBack
+pub mod Rooms
 pub mod Demands

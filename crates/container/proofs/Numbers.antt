@@ -1,5 +1,5 @@
 -- The paper's numbers are those that the rules compute. Assumes nothing.
-use mathlib.Core.Path.{_≡_, refl, _∙_}
+use mathlib.Core.Path.{_≡_, refl}
 use mathlib.Core.Bool.{true}
 use Prim.Native.Nat.{_<_}
 use native.Mathlib.Omega.{arith}
@@ -11,15 +11,15 @@ use Rattle.endian.specs.Splice.{splice}
 use Rattle.layout.specs.Limits.{tasksRule, powerOfTwo, blocksizeRule, sizesRule, plannedRule, maxchunksRule, allDifferent, ranksRule}
 use Rattle.layout.specs.Areas.{meta1End, roundUp, dataStart, extended, capacity, extendedBefore, globalskip, chunkStart, meta2Start, meta2Length, meta2End}
 use Rattle.meta.specs.Refusals.{firstFailing}
-use Rattle.meta.proofs.Refusals.{first-passes}
 use Rattle.meta.specs.Meta1.{lastFields, meta1Front, meta1, openingBytes}
 use Rattle.meta.specs.Meta2.{valueRule, valuesRule, countsRule, meta2}
 use Rattle.meta.specs.Heads.{filled, holds, startOf, meta2At, endAt, headOf, headSound, tooShort, cellsAgree, recordTests, isTask}
 use Rattle.container.specs.Records.{loadedSound}
+use Rattle.session.proofs.Answers.{answer-long}
 use Rattle.session.specs.Records.{State, sessionSound, sessionTests}
-use Rattle.session.specs.Open.{planTests, openRefusal, opens, openHead, openSession, openAnswer, openImage, openTable}
+use Rattle.session.specs.Open.{shapeTests, numberTests, planTests, openRefusal, opens, openHead, openSession, openAnswer, openImage, openTable}
 use Rattle.session.specs.Write.{Request, begun, inLast, room, spot, target, requestTests, writeRefusal, stored, afterWrite}
-use Rattle.session.specs.Close.{maxchunksOf, meta2Of, closedImage, closeRefusal, closeAnswer, closeImage}
+use Rattle.session.specs.Close.{maxchunksOf, finished, closedImage, closeRefusal, closeAnswer, closeImage}
 use Rattle.meta.specs.Judge.{markedIn, bigIn, orderedIn, tasksIn, maxchunksIn, headIn, startTests, fieldTests, fixedTests, listTests, lastTests, meta1Tests, countsIn, valuesIn, meta2Tests}
 use Rattle.container.specs.Load.{partIn, loadedIn, loadRefusal, loadAnswer, loadTable}
 use Rattle.container.specs.Reads.{loadedTests, readTests, used, writtenIn, chunkBytes, chunkRefusal, chunkPart, streamOf, totalOf, totalAnswer, readRefusal, readAnswer, readOutput}
@@ -30,8 +30,8 @@ both-tables : Agrees pTable × Agrees otherTable
 unfolding allBelow anyBelow sumBelow greatestBelow joinBelow flatten splice tasksRule powerOfTwo blocksizeRule sizesRule plannedRule
     maxchunksRule allDifferent ranksRule meta1End roundUp dataStart extended capacity extendedBefore globalskip chunkStart
     meta2Start meta2Length meta2End firstFailing lastFields meta1Front meta1 openingBytes valueRule valuesRule countsRule meta2 filled headSound
-    sessionSound loadedSound tooShort cellsAgree recordTests planTests holds startOf meta2At endAt headOf openRefusal opens openHead openSession
-    openAnswer openImage openTable sessionTests begun inLast room spot target requestTests stored maxchunksOf meta2Of
+    sessionSound loadedSound tooShort cellsAgree recordTests shapeTests numberTests planTests holds startOf meta2At endAt headOf openRefusal opens openHead openSession
+    openAnswer openImage openTable sessionTests begun inLast room spot target requestTests stored maxchunksOf finished
     closedImage writeRefusal afterWrite closeRefusal closeAnswer closeImage markedIn bigIn orderedIn tasksIn maxchunksIn headIn
     startTests fieldTests fixedTests listTests lastTests meta1Tests countsIn valuesIn meta2Tests partIn loadedIn loadRefusal loadAnswer loadTable loadedTests readTests used writtenIn chunkBytes
     chunkRefusal chunkPart streamOf totalOf totalAnswer readRefusal readAnswer readOutput fate told pTable otherTable
@@ -50,10 +50,7 @@ other-table = both-tables .1
 -- P13, "refused with 15 at any moment": whatever a session holds, once it passes 17, 18 and 19, and whatever the tally keeps
 pub too-long : (st : State) (q : Request) → firstFailing (sessionTests st) ≡ 0 → isTask (st .session .head .n) (q .task) ≡ true
     → room st q < length (q .bytes) → writeRefusal st q ≡ 15
-unfolding writeRefusal firstFailing recordTests sessionTests requestTests
-too-long st q passes task long =
-    first-passes (sessionTests st) (requestTests st q) (omega arith, (omega arith, (omega arith, tt))) passes
-    ∙ simp (task, ne-eqb (length (q .bytes)) 0 (λ e. omega arith), lt-ltb _ _ long)
+too-long st q passes task long = answer-long st q passes task long
 
 pub tally-too-long : (p : Plan) (a : Ask) (x : Tally) → isTask (p .n) (a .task) ≡ true → p .c (a .task) < a .L
     → answerTo (fate p a x) ≡ 15

@@ -1,22 +1,31 @@
--- Demand 1 of loading and of the reads: a refusal is one of the entry's own numbers, and a refused call moves nothing. Assumes nothing.
+-- Demand 1: a refusal is one of the entry's own numbers, and a refused call moves nothing. Assumes nothing.
 use mathlib.Core.Path.{_≡_, refl, ap}
-use mathlib.Core.Bool.{Bool, true, false, _||_, false≢true}
-use mathlib.Core.List.{List, [], _∷_}
+use mathlib.Core.Bool.{Bool, true, false, cond, not, _||_, false≢true}
+use mathlib.Core.List.{List, [], _∷_, _++_}
 use mathlib.Core.Logic.{inl, inr}
 use Prim.Native.Nat.{ℕ, _<_}
-use lib.Dec.{eqb}
+use lib.Dec.{ltb, eqb}
 use lib.IntN.{ℤ}
 use lib.ListN.{length}
 use borrow.Author.Tests.{eqb-true}
-use Rattle.meta.specs.Refusals.{Test, firstFailing}
+use Rattle.meta.specs.Refusals.{Test, test, firstFailing}
 use Rattle.meta.specs.Judge.{startTests, fieldTests, fixedTests, listTests, lastTests, meta1Tests, meta2Tests}
 use Rattle.meta.proofs.Refusals.{Each, answered, when-refused, number-is}
 use Rattle.container.specs.declared.record.Checked.{Checked}
 use Rattle.container.specs.declared.record.Counted.{Counted}
-use Rattle.meta.specs.Heads.{recordTests}
+use Rattle.meta.specs.Heads.{recordTests, isTask}
+use Rattle.session.specs.declared.record.Written.{Written}
+use Rattle.session.specs.declared.record.Closed.{Closed}
+use Rattle.session.specs.Records.{State, sessionTests}
+use Rattle.session.specs.Open.{Opening, shapeTests, numberTests, planTests, openRefusal, opens, openAnswer}
+use Rattle.session.specs.Write.{Request, room, spot, requestTests, writeRefusal}
+use Rattle.session.specs.Close.{closeRefusal, closeAnswer, closeImage}
+use Rattle.session.proofs.Openings.{refused-answer, refused-image, refused-table}
+use Rattle.session.proofs.Outcomes.{refused-keeps, empty-keeps}
 use Rattle.container.specs.Load.{loadRefusal, loadAnswer, loadTable}
 use Rattle.container.specs.Reads.{Container, loadedTests, readTests, chunkRefusal, chunkPart, totalAnswer, readRefusal, readAnswer, readOutput}
-use Rattle.container.specs.Demands.{OneOf, loadNumbers, chunkNumbers, readNumbers, totalNumbers, LoadRefuses, ReadsRefuse}
+use Rattle.container.specs.Demands.{OneOf, loadNumbers, chunkNumbers, readNumbers, totalNumbers, openNumbers, writeNumbers, closeNumbers}
+use Rattle.container.specs.Demands.{LoadRefuses, ReadsRefuse, OpenRefuses, WriteRefuses, CloseRefuses}
 
 -- whether a number is one of a list's, as a test
 listed : List ℕ → ℕ → Bool
@@ -85,4 +94,66 @@ module _ (c : Container) (task : ℕ) where
         (ap (λ (a : Counted). a .bytes) (when-refused _ _ _ r), when-refused _ _ _ r);
     total-numbered = rw total-number (one-of-tests totalNumbers _ (refl, (refl, (refl, (refl, tt)))));
     total-nothing = λ l. ap (λ (a : Counted). a .bytes) (when-refused _ _ _ (rw total-number at l));
+  }
+
+-- ---- opening, writing and closing
+
+module _ (o : Opening) (image : List ℕ) (table : List ℤ) where
+  pub open-number : openAnswer o image table .refusal ≡ openRefusal o (length image) (length table)
+  unfolding openAnswer opens
+  open-number = number-is (openRefusal o (length image) (length table)) _ _ (λ (a : Written). a .refusal) refl refl
+
+  open-listed : OneOf (0 ∷ openNumbers) (openRefusal o (length image) (length table))
+  unfolding openRefusal planTests shapeTests numberTests listed
+  open-listed = one-of-tests openNumbers _ (refl, (refl, (refl, (refl, (refl, (refl, (refl, (refl, tt))))))))
+
+  pub open-refuses : OpenRefuses o image table
+  open-refuses = record {
+    numbered = rw open-number open-listed;
+    nothing-moved =
+        λ l. let r : 0 < openRefusal o (length image) (length table) = rw open-number at l in (
+          refused-image o image table r,
+          refused-table o image table r,
+          ap (λ (a : Written). a .session) (refused-answer o image table r),
+        );
+  }
+
+-- with bytes and without
+write-listed : (st : State) (q : Request) → OneOf (0 ∷ writeNumbers) (writeRefusal st q)
+unfolding writeRefusal sessionTests recordTests requestTests listed
+write-listed st q = go (eqb (length (q .bytes)) 0)
+  where
+    go : (b : Bool)
+        → OneOf (0 ∷ writeNumbers)
+        (firstFailing
+        (sessionTests st
+        ++ (test 14 (not (isTask (st .session .head .n) (q .task)))
+        ∷ cond b [] (test 15 (ltb (room st q) (length (q .bytes))) ∷ test 16 (ltb (st .session .planned) (spot st q .chunk)) ∷ []))))
+    go true = one-of-tests writeNumbers _ (refl, (refl, (refl, (refl, tt))))
+    go false = one-of-tests writeNumbers _ (refl, (refl, (refl, (refl, (refl, (refl, tt))))))
+
+pub write-refuses : (st : State) (q : Request) → WriteRefuses st q
+write-refuses st q = record {
+  numbered = write-listed st q;
+  nothing-moved = λ l. let e = refused-keeps st q l in (e, ap (λ (s : State). s .session) e);
+  empty-moves-nothing = empty-keeps st q;
+}
+
+module _ (st : State) where
+  pub close-number : closeAnswer st .refusal ≡ closeRefusal st
+  unfolding closeAnswer
+  close-number = number-is (closeRefusal st) _ _ (λ (a : Closed). a .refusal) refl refl
+
+  close-listed : OneOf (0 ∷ closeNumbers) (closeRefusal st)
+  unfolding closeRefusal sessionTests recordTests listed
+  close-listed = one-of-tests closeNumbers _ (refl, (refl, (refl, tt)))
+
+  pub close-refuses : CloseRefuses st
+  unfolding closeAnswer closeImage
+  close-refuses = record {
+    numbered = rw close-number close-listed;
+    nothing-moved =
+        λ l. let r : 0 < closeRefusal st = rw close-number at l in
+        let e = when-refused (closeRefusal st) _ _ r in
+        (when-refused (closeRefusal st) _ _ r, ap (λ (a : Closed). a .session) e, ap (λ (a : Closed). a .length) e);
   }

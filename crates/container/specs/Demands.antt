@@ -1,19 +1,30 @@
--- What is promised of loading and of the reads, over every image, table, record and request: demand 1, a refusal is one of the entry's own
--- numbers and moves nothing, and demand 2 (a), the loader accepts exactly the format and hands back what the container says, from which the
--- reads then give every byte that it says was written.
+-- What is promised, over every image, table, record, opening and list of requests, in three statements: demand 1, a refusal is one of
+-- the entry's own numbers and moves nothing; demand 2, the loader accepts exactly the format, what is stored is what the format asks for,
+-- and what a session accepted is read back; demand 3, a task can count on its room.
 -- The promises of the entries cite the same definitions. Definitions only.
 use mathlib.Core.Path.{_≡_}
-use mathlib.Core.List.{List, [], _∷_}
+use mathlib.Core.List.{List, [], _∷_, _++_}
 use mathlib.Core.Logic.{_⊎_}
-use Prim.Native.Nat.{ℕ, _+_, _-_, _*_, _≤_, _<_, min}
+use Prim.Native.Nat.{ℕ, _+_, _-_, _*_, _/_, _^_, _≤_, _<_, min}
+use lib.Dec.{eqb}
 use lib.IntN.{ℤ, pos}
-use lib.ListN.{length, take, drop}
+use lib.ListN.{length, getD, take, drop, replicate}
+use lib.Signed.{mag}
 use Rattle.endian.specs.Below.{sumBelow, joinBelow}
+use Rattle.endian.specs.Signed.{natural}
 use Rattle.endian.specs.Splice.{splice}
 use Rattle.layout.specs.Limits.{maxTasks}
-use Rattle.layout.specs.Areas.{chunkStart}
-use Rattle.meta.specs.Meta2.{valueIndex, unused}
-use Rattle.meta.specs.Heads.{entry, cell, orderOf}
+use Rattle.layout.specs.Areas.{meta1End, dataStart, capacity, chunkStart}
+use Rattle.meta.specs.Refusals.{firstFailing}
+use Rattle.meta.specs.Meta1.{lastAt, lastFields, meta1}
+use Rattle.meta.specs.Meta2.{valueIndex, unused, meta2}
+use Rattle.meta.specs.Heads.{entry, cell, isBig, orderOf, meta2At, endAt}
+use Rattle.session.specs.declared.record.Session.{Session}
+use Rattle.session.specs.Records.{State, sessionTests, noSession, marked}
+use Rattle.session.specs.Open.{Opening, tasks, openAnswer, openImage, openTable, opened}
+use Rattle.session.specs.Write.{Request, writeRefusal, writeAnswer, afterWrite, writes, refusals, accepted}
+use Rattle.session.specs.Close.{maxchunksOf, closeAnswer, closeImage}
+use Rattle.room.specs.Tally.{planOf, blank, asks, answers, toldAll, held, own, ownAnswers, Lands}
 use Rattle.container.specs.declared.record.Loaded.{Loaded}
 use Rattle.container.specs.Records.{noLoaded}
 use Rattle.container.specs.Format.{Contents, IsContainer}
@@ -40,6 +51,15 @@ readNumbers = 17 ∷ 18 ∷ 19 ∷ 14 ∷ 23 ∷ []
 abbrev pub totalNumbers : List ℕ
 totalNumbers = 17 ∷ 18 ∷ 19 ∷ 14 ∷ []
 
+abbrev pub openNumbers : List ℕ
+openNumbers = 2 ∷ 5 ∷ 6 ∷ 21 ∷ 8 ∷ 9 ∷ 20 ∷ 18 ∷ []
+
+abbrev pub writeNumbers : List ℕ
+writeNumbers = 17 ∷ 18 ∷ 19 ∷ 14 ∷ 15 ∷ 16 ∷ []
+
+abbrev pub closeNumbers : List ℕ
+closeNumbers = 17 ∷ 18 ∷ 19 ∷ []
+
 -- loading: refused, the table is as it came and the record is zeros marked closed
 pub record LoadRefuses (image : List ℕ) (table : List ℤ) : Type 0 where
   pub numbered : OneOf (0 ∷ loadNumbers) (loadAnswer image table .refusal)
@@ -54,6 +74,36 @@ pub record ReadsRefuse (c : Container) (task : ℕ) : Type 0 where
       → (readAnswer c task p out .bytes ≡ 0) × (readOutput c task p out ≡ out)
   pub total-numbered : OneOf (0 ∷ totalNumbers) (totalAnswer c task .refusal)
   pub total-nothing : 0 < totalAnswer c task .refusal → totalAnswer c task .bytes ≡ 0
+
+-- opening: refused, image and table are as they came and the record is zeros marked closed
+pub record OpenRefuses (o : Opening) (image : List ℕ) (table : List ℤ) : Type 0 where
+  pub numbered : OneOf (0 ∷ openNumbers) (openAnswer o image table .refusal)
+  pub nothing-moved : 0 < openAnswer o image table .refusal
+      → (openImage o image table ≡ image) × (openTable o image table ≡ table) × (openAnswer o image table .session ≡ noSession)
+
+-- a write: refused or empty, record, image and table are as they came
+pub record WriteRefuses (st : State) (q : Request) : Type 0 where
+  pub numbered : OneOf (0 ∷ writeNumbers) (writeAnswer st q .refusal)
+  pub nothing-moved : 0 < writeAnswer st q .refusal → (afterWrite st q ≡ st) × (writeAnswer st q .session ≡ st .session)
+  pub empty-moves-nothing : length (q .bytes) ≡ 0 → afterWrite st q ≡ st
+
+-- closing: refused, record and image are as they came and the length is 0
+pub record CloseRefuses (st : State) : Type 0 where
+  pub numbered : OneOf (0 ∷ closeNumbers) (closeAnswer st .refusal)
+  pub nothing-moved : 0 < closeAnswer st .refusal
+      → (closeImage st ≡ st .image) × (closeAnswer st .session ≡ st .session) × (closeAnswer st .length ≡ 0)
+
+-- and what keeps a session alive: whatever was written since an accepted opening, and however it was answered, 17, 18 and 19 pass
+abbrev pub Alive : Opening → List ℕ → List ℤ → Type 0
+Alive o image table = (qs : List Request) → firstFailing (sessionTests (writes (opened o image table) qs)) ≡ 0
+
+pub record Refusals : Type 0 where
+  pub load-refuses : (image : List ℕ) → (table : List ℤ) → LoadRefuses image table
+  pub reads-refuse : (c : Container) → (task : ℕ) → ReadsRefuse c task
+  pub open-refuses : (o : Opening) → (image : List ℕ) → (table : List ℤ) → OpenRefuses o image table
+  pub write-refuses : (st : State) → (q : Request) → WriteRefuses st q
+  pub close-refuses : (st : State) → CloseRefuses st
+  pub alive : (o : Opening) → (image : List ℕ) → (table : List ℤ) → openAnswer o image table .refusal ≡ 0 → Alive o image table
 
 -- ---- demand 2 (a): the format
 
@@ -121,13 +171,157 @@ pub record RefusesBack (c : Contents) (loaded : Container) : Type 0 where
   pub no-chunk : (i chunk : ℕ) → i < c .n → (chunk ≡ 0) ⊎ (c .count i < chunk) → chunkRefusal loaded (i + 1) chunk ≡ 22
   pub past-total : (i p : ℕ) → (out : List ℕ) → i < c .n → totalSaid c i < p → readAnswer loaded (i + 1) p out .refusal ≡ 23
 
--- ---- the two demands, of loading and reading
+-- ---- demand 2 (b): what any accepted opening and any accepted close store, whatever came in
 
-pub record Demands : Type 0 where
-  pub load-refuses : (image : List ℕ) → (table : List ℤ) → LoadRefuses image table
-  pub reads-refuse : (c : Container) → (task : ℕ) → ReadsRefuse c task
+-- the record of an opening says what the opening was given; no chunk is begun, and the mark is unset
+pub record Begun (o : Opening) (s : Session) : Type 0 where
+  pub order : s .head .order ≡ o .order
+  pub version : s .head .version ≡ o .version
+  pub patch : s .head .patch ≡ o .patch
+  pub blocksize : s .head .blocksize ≡ o .blocksize
+  pub n : s .head .n ≡ tasks o
+  pub ranks : Lists (tasks o) (entry (o .ranks)) (s .head .ranks)
+  pub sizes : Lists (tasks o) (entry (o .sizes)) (s .head .sizes)
+  pub counts : Lists (tasks o) (λ i. 0) (s .counts)
+  pub planned : s .planned ≡ o .planned
+  pub unmarked : s .closed ≡ 0
+
+-- META1 of that record with zeros up to D, -1 in the first n·K cells, and nothing else
+pub record OpeningStores (o : Opening) (image : List ℕ) (table : List ℤ) : Type 0 where
+  pub begun : Begun o (openAnswer o image table .session)
+  pub bytes : take (dataStart (o .blocksize) (tasks o)) (openImage o image table)
+      ≡ meta1 (openAnswer o image table .session .head) (o .prefix) 0 0
+      ++ replicate (dataStart (o .blocksize) (tasks o) - meta1End (tasks o)) 0
+  pub other-bytes : drop (dataStart (o .blocksize) (tasks o)) (openImage o image table) ≡ drop (dataStart (o .blocksize) (tasks o)) image
+  pub cells : take (tasks o * o .planned) (openTable o image table) ≡ replicate (tasks o * o .planned) unused
+  pub other-cells : drop (tasks o * o .planned) (openTable o image table) ≡ drop (tasks o * o .planned) table
+
+-- META2 of the record and the table, in the record's order, and META1's last two fields, of 4 and 8 bytes; every other byte, also past the
+-- length, is as it came. m is the greatest count
+pub record CloseStores (st : State) (m : ℕ) : Type 0 where
+  pub most : (i : ℕ) → i < st .session .head .n → entry (st .session .counts) i ≤ m
+  pub reached : (i : ℕ) × (i < st .session .head .n) × (entry (st .session .counts) i ≡ m)
+  pub second : take (endAt (st .session .head) m - meta2At (st .session .head) m) (drop (meta2At (st .session .head) m) (closeImage st))
+      ≡ meta2 (isBig (st .session .head)) (st .session .head .n) m (entry (st .session .counts)) (cell (st .table))
+  pub fields : take 12 (drop (lastAt (st .session .head .n)) (closeImage st))
+      ≡ lastFields (isBig (st .session .head)) m (meta2At (st .session .head) m)
+  pub others : (j : ℕ)
+      → (j < lastAt (st .session .head .n))
+      ⊎ (((meta1End (st .session .head .n) ≤ j) × (j < meta2At (st .session .head) m)) ⊎ (endAt (st .session .head) m ≤ j))
+      → getD (closeImage st) j 0 ≡ getD (st .image) j 0
+  pub as-long : length (closeImage st) ≡ length (st .image)
+  pub session : closeAnswer st .session ≡ marked (st .session)
+  pub length-is : closeAnswer st .length ≡ endAt (st .session .head) m
+
+-- ---- demand 2 (c): what a session accepted is read back
+
+-- the two version numbers are ones that 32 bits hold, as the entry's parameters do; every other number of an opening is tested
+abbrev pub VersionsFit : Opening → Type 0
+VersionsFit o = (mag (o .version) < 2 ^ 31) × (mag (o .patch) < 2 ^ 31)
+
+-- what the container of a session says: what the opening was given, the counts and the cells; maxchunks is the greatest count
+abbrev pub contentsOf : Opening → State → Contents
+contentsOf o st =
+    record {
+      big = eqb (o .order) 1;
+      version = o .version;
+      patch = o .patch;
+      blocksize = o .blocksize;
+      n = tasks o;
+      rank = entry (o .ranks);
+      size = entry (o .sizes);
+      maxchunks = maxchunksOf (st .session);
+      count = entry (st .session .counts);
+      written = λ k i. natural (cell (st .table) (valueIndex (tasks o) k i));
+    }
+
+-- a container loaded: its parts, totals and streams, for each task the given bytes
+pub record GivesBack (c : Container) (n : ℕ) (bytes : ℕ → List ℕ) : Type 0 where
+  pub allowed : (i k : ℕ) → i < n → k < entry (c .loaded .counts) i → chunkRefusal c (i + 1) (k + 1) ≡ 0
+  pub parts : (i : ℕ) → i < n → joinBelow (entry (c .loaded .counts) i) (λ k. chunkPart c (i + 1) (k + 1)) ≡ bytes i
+  pub totals : (i : ℕ) → i < n → totalAnswer c (i + 1) ≡ record { refusal = 0; bytes = length (bytes i) }
+  pub copied : (i p : ℕ) → (out : List ℕ) → i < n → p ≤ length (bytes i)
+      → readAnswer c (i + 1) p out ≡ record { refusal = 0; bytes = min (length out) (length (bytes i) - p) }
+  pub streams : (i p : ℕ) → (out : List ℕ) → i < n → p ≤ length (bytes i)
+      → readOutput c (i + 1) p out ≡ splice out 0 (take (length out) (drop p (bytes i)))
+
+-- the first `length` bytes of a closed session's image, followed by anything, loaded with any table that is long enough: accepted, with the
+-- same fields; each task gives back the bytes accepted from it, in order
+pub record LoadsAgain (o : Opening) (st : State) (bytes : ℕ → List ℕ) (image : List ℕ) (table : List ℤ) : Type 0 where
+  pub accepts : loadAnswer image table .refusal ≡ 0
+  pub recorded : Recorded (contentsOf o st) (loadAnswer image table .loaded)
+  pub gives-back : GivesBack (containerOf (loadAnswer image table .loaded) image (loadTable image table)) (tasks o) bytes
+
+pub record WrittenBack (o : Opening) (image : List ℕ) (table : List ℤ) (qs : List Request) : Type 0 where
+  pub closes : closeAnswer (writes (opened o image table) qs) .refusal ≡ 0
+  pub loads : (tail : List ℕ) → (cells : List ℤ) → tasks o * maxchunksOf (writes (opened o image table) qs .session) ≤ length cells
+      → LoadsAgain o (writes (opened o image table) qs)
+      (λ i. accepted (i + 1) qs (refusals (opened o image table) qs))
+      (take (closeAnswer (writes (opened o image table) qs) .length) (closeImage (writes (opened o image table) qs)) ++ tail)
+      cells
+
+pub record Format : Type 0 where
   pub accepts-exactly : (image : List ℕ) → (table : List ℤ) → AcceptsExactly image table
   pub reads-back : (image : List ℕ) → (table : List ℤ) → (c : IsContainer image) → loadAnswer image table .refusal ≡ 0
       → ReadsBack image (c .says) (containerOf (loadAnswer image table .loaded) image (loadTable image table))
   pub refuses-back : (image : List ℕ) → (table : List ℤ) → (c : IsContainer image) → loadAnswer image table .refusal ≡ 0
       → RefusesBack (c .says) (containerOf (loadAnswer image table .loaded) image (loadTable image table))
+  pub opening-stores : (o : Opening) → (image : List ℕ) → (table : List ℤ) → openAnswer o image table .refusal ≡ 0
+      → OpeningStores o image table
+  pub close-stores : (st : State) → closeAnswer st .refusal ≡ 0 → CloseStores st (maxchunksOf (st .session))
+  pub written-back : (o : Opening) → (image : List ℕ) → (table : List ℤ) → (qs : List Request) → openAnswer o image table .refusal ≡ 0
+      → VersionsFit o → WrittenBack o image table qs
+
+-- ---- demand 3: a task can count on its room, over every list of writes from an accepted opening
+
+-- the answers: those of the tally, and for a task those of the tally for its own requests alone; 16 only if twice the bytes exceed K·c, and
+-- never more than K·c held. A task number is any number
+pub record Answers (o : Opening) (start : State) (qs : List Request) : Type 0 where
+  pub as-tally : refusals start qs ≡ answers (planOf o) blank (asks qs)
+  pub alone : (task : ℕ) → ownAnswers task (asks qs) (refusals start qs) ≡ answers (planOf o) blank (own task (asks qs))
+  pub least-share : (q : Request) → writeRefusal (writes start qs) q ≡ 16
+      → o .planned * capacity (o .blocksize) (entry (o .sizes) (q .task - 1))
+      < 2 * (held (q .task) (asks qs) (refusals start qs) + length (q .bytes))
+  pub most : (task : ℕ) → held task (asks qs) (refusals start qs) ≤ o .planned * capacity (o .blocksize) (entry (o .sizes) (task - 1))
+
+-- the bytes: each accepted one where the tally puts it, every other as the opening left it, and no block with bytes of two tasks
+pub record Placed (o : Opening) (start : State) (qs : List Request) : Type 0 where
+  pub lands : {task at value : ℕ} → Lands (planOf o) task at value blank qs → getD (writes start qs .image) at 0 ≡ value
+  pub others : (at : ℕ) → ((task value : ℕ) → Lands (planOf o) task at value blank qs → ⊥)
+      → getD (writes start qs .image) at 0 ≡ getD (start .image) at 0
+  pub as-long : length (writes start qs .image) ≡ length (start .image)
+  pub own-blocks : {task task′ at at′ value value′ : ℕ} → Lands (planOf o) task at value blank qs → Lands (planOf o) task′ at′ value′ blank qs
+      → at / o .blocksize ≡ at′ / o .blocksize → task ≡ task′
+
+-- the record and the table: a task's count is the tally's u and its last cell the tally's w, later cells are -1; nothing else of them moved
+pub record Kept (o : Opening) (start : State) (qs : List Request) : Type 0 where
+  pub head : writes start qs .session .head ≡ start .session .head
+  pub planned : writes start qs .session .planned ≡ start .session .planned
+  pub closed : writes start qs .session .closed ≡ start .session .closed
+  pub counts : (i : ℕ) → i < tasks o → entry (writes start qs .session .counts) i ≡ toldAll (planOf o) blank (asks qs) (i + 1) .u
+  pub last-cells : (i k : ℕ) → i < tasks o → k + 1 ≡ toldAll (planOf o) blank (asks qs) (i + 1) .u
+      → cell (writes start qs .table) (valueIndex (tasks o) k i) ≡ pos (toldAll (planOf o) blank (asks qs) (i + 1) .w)
+  pub later-cells : (i k : ℕ) → i < tasks o → toldAll (planOf o) blank (asks qs) (i + 1) .u ≤ k → k < o .planned
+      → cell (writes start qs .table) (valueIndex (tasks o) k i) ≡ unused
+  pub other-cells : (j : ℕ) → tasks o * o .planned ≤ j → cell (writes start qs .table) j ≡ cell (start .table) j
+  pub as-many : length (writes start qs .table) ≡ length (start .table)
+
+-- openings that are alike differ in image and table at most: the same requests of a task, in the same order, get the same answers
+abbrev pub Alike : Opening → List ℕ → List ℤ → Type 0
+Alike o image table =
+    (image′ : List ℕ) → (table′ : List ℤ) → openAnswer o image′ table′ .refusal ≡ 0 → (qs qs′ : List Request) → (task : ℕ)
+    → own task (asks qs) ≡ own task (asks qs′)
+    → ownAnswers task (asks qs) (refusals (opened o image table) qs) ≡ ownAnswers task (asks qs′) (refusals (opened o image′ table′) qs′)
+
+pub record Room (o : Opening) (image : List ℕ) (table : List ℤ) : Type 0 where
+  pub answered : (qs : List Request) → Answers o (opened o image table) qs
+  pub placed : (qs : List Request) → Placed o (opened o image table) qs
+  pub kept : (qs : List Request) → Kept o (opened o image table) qs
+  pub alike : Alike o image table
+
+-- ---- the three demands
+
+pub record Demands : Type 0 where
+  pub refusals : Refusals
+  pub format : Format
+  pub room : (o : Opening) → (image : List ℕ) → (table : List ℤ) → openAnswer o image table .refusal ≡ 0 → Room o image table

@@ -4,8 +4,10 @@ use mathlib.Core.Bool.{cond}
 use mathlib.Core.List.{List}
 use Prim.Native.Nat.{ℕ}
 use lib.Dec.{eqb}
+use lib.IntN.{ℤ}
 use Rattle.endian.specs.Below.{greatestBelow}
 use Rattle.endian.specs.Splice.{splice}
+use Rattle.meta.specs.declared.head.Head.{Head}
 use Rattle.session.specs.declared.record.Closed.{Closed}
 use Rattle.session.specs.declared.record.Session.{Session}
 use Rattle.meta.specs.Refusals.{firstFailing}
@@ -22,18 +24,15 @@ maxchunksOf s = greatestBelow (s .head .n) (entry (s .counts))
 unfoldable pub closeRefusal : State → ℕ
 closeRefusal st = firstFailing (sessionTests st)
 
-module _ (st : State) where
-  -- META2 of the record and the table, in the record's order
-  unfoldable pub meta2Of : List ℕ
-  meta2Of =
-      meta2 (isBig (st .session .head)) (st .session .head .n) (maxchunksOf (st .session)) (entry (st .session .counts)) (cell (st .table))
+-- "Closing writes META2, maxchunks and start_of_varheader, changes no other byte": META2 of these counts and cells, in the head's order
+unfoldable pub finished : Head → ℕ → List ℕ → List ℤ → List ℕ → List ℕ
+finished h maxchunks counts table image =
+    splice (splice image (meta2At h maxchunks) (meta2 (isBig h) (h .n) maxchunks (entry counts) (cell table)))
+    (lastAt (h .n)) (lastFields (isBig h) maxchunks (meta2At h maxchunks))
 
-  -- "Closing writes META2, maxchunks and start_of_varheader, changes no other byte"
+module _ (st : State) where
   unfoldable pub closedImage : List ℕ
-  closedImage =
-      splice (splice (st .image) (meta2At (st .session .head) (maxchunksOf (st .session))) meta2Of)
-      (lastAt (st .session .head .n))
-      (lastFields (isBig (st .session .head)) (maxchunksOf (st .session)) (meta2At (st .session .head) (maxchunksOf (st .session))))
+  closedImage = finished (st .session .head) (maxchunksOf (st .session)) (st .session .counts) (st .table) (st .image)
 
   -- "marks the session closed, and reports the container's length: the end of META2"
   unfoldable pub closeAnswer : Closed

@@ -27,6 +27,36 @@ pub record Opening : Type 0 where
   pub prefix : List ℕ
   pub planned : ℕ
 
+abbrev pub openingOf : ℕ → ℤ → ℤ → ℕ → List ℕ → List ℕ → List ℕ → ℕ → Opening
+openingOf order version patch blocksize ranks sizes prefix planned =
+    record {
+      order = order;
+      version = version;
+      patch = patch;
+      blocksize = blocksize;
+      ranks = ranks;
+      sizes = sizes;
+      prefix = prefix;
+      planned = planned;
+    }
+
+-- "2, 5, 6, 21": of the order, the blocksize, and how many ranks, sizes and bytes of the prefix there are
+unfoldable pub shapeTests : ℕ → ℕ → ℕ → ℕ → ℕ → List Test
+shapeTests order blocksize ranks sizes prefix =
+    test 2 (not (isOrder order))
+    ∷ test 5 (not (blocksizeRule (pos blocksize)))
+    ∷ test 6 (not (tasksRule (pos ranks)) || not (eqb ranks sizes))
+    ∷ test 21 (ltb prefixLength prefix)
+    ∷ []
+
+-- "8, 9, 20": of the ranks, the sizes and K
+unfoldable pub numberTests : List ℕ → List ℕ → ℕ → List Test
+numberTests ranks sizes planned =
+    test 8 (not (ranksRule (length ranks) (λ i. pos (entry ranks i))))
+    ∷ test 9 (not (sizesRule (length ranks) (λ i. pos (entry sizes i))))
+    ∷ test 20 (not (plannedRule (pos planned)))
+    ∷ []
+
 module _ (o : Opening) where
   abbrev pub tasks : ℕ
   tasks = length (o .ranks)
@@ -34,14 +64,8 @@ module _ (o : Opening) where
   -- "2, 5, 6, 21, 8, 9, 20": the tests of the plan
   unfoldable pub planTests : List Test
   planTests =
-      test 2 (not (isOrder (o .order)))
-      ∷ test 5 (not (blocksizeRule (pos (o .blocksize))))
-      ∷ test 6 (not (tasksRule (pos tasks)) || not (eqb tasks (length (o .sizes))))
-      ∷ test 21 (ltb prefixLength (length (o .prefix)))
-      ∷ test 8 (not (ranksRule tasks (λ i. pos (entry (o .ranks) i))))
-      ∷ test 9 (not (sizesRule tasks (λ i. pos (entry (o .sizes) i))))
-      ∷ test 20 (not (plannedRule (pos (o .planned))))
-      ∷ []
+      shapeTests (o .order) (o .blocksize) tasks (length (o .sizes)) (length (o .prefix))
+      ++ numberTests (o .ranks) (o .sizes) (o .planned)
 
   -- then 18: "The image needs D + K·G + 8n(1+K) bytes", the table "at least n times K" cells
   unfoldable pub openRefusal : ℕ → ℕ → ℕ

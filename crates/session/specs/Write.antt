@@ -9,6 +9,7 @@ use lib.ListN.{length, set}
 use Rattle.endian.specs.Signed.{natural}
 use Rattle.endian.specs.Splice.{splice}
 use Rattle.session.specs.declared.record.Written.{Written}
+use Rattle.session.specs.declared.writing.Decision.{Decision}
 use Rattle.meta.specs.Refusals.{Test, test, firstFailing}
 use Rattle.meta.specs.Meta2.{valueIndex}
 use Rattle.meta.specs.Heads.{entry, cell, holds, startOf, isTask}
@@ -19,10 +20,18 @@ pub record Request : Type 0 where
   pub task : ℕ
   pub bytes : List ℕ
 
+abbrev pub requestOf : ℕ → List ℕ → Request
+requestOf task bytes = record { task = task; bytes = bytes }
+
 -- where bytes go: a chunk, counted from 1, and how many bytes stand in it before them
 pub record Spot : Type 0 where
   pub chunk : ℕ
   pub from : ℕ
+
+-- "Else they go to the start of its next chunk, if its number is at most K"
+unfoldable pub nextChunk : ℕ → ℕ → Decision
+nextChunk planned begun =
+    cond (leb (begun + 1) planned) (record { refusal = 0; chunk = begun + 1; from = 0 }) (record { refusal = 16; chunk = 0; from = 0 })
 
 module _ (st : State) (q : Request) where
   -- the chunks that the task has begun, the bytes in the last of them, and what a chunk of it holds
@@ -57,6 +66,13 @@ module _ (st : State) (q : Request) where
   -- "17, 18, 19, 14, empty accepted, 15, 16"
   unfoldable pub writeRefusal : ℕ
   writeRefusal = firstFailing (sessionTests st ++ requestTests)
+
+  -- what is decided: where the bytes go, or chunk 0 where there are none or they are refused
+  unfoldable pub decision : Decision
+  decision =
+      cond (eqb writeRefusal 0 && not (eqb (length (q .bytes)) 0))
+      (record { refusal = 0; chunk = spot .chunk; from = spot .from })
+      (record { refusal = writeRefusal; chunk = 0; from = 0 })
 
   -- "Only those bytes, that cell and that task's count change."
   unfoldable pub stored : State

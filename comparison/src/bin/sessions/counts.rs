@@ -1,0 +1,29 @@
+//! Holds how often each number was the answer.
+
+/// What opening, writing and closing can answer beside 0.
+const NUMBERS: [usize; 13] = [2, 5, 6, 8, 9, 14, 15, 16, 17, 18, 19, 20, 21];
+
+#[derive(Default)]
+pub struct Counts {
+    answers: [u64; 24],
+}
+
+impl Counts {
+    /// Counts the answer to one call.
+    pub fn add(&mut self, number: u32) {
+        self.answers[number as usize] += 1;
+    }
+
+    /// The numbers that were never the answer.
+    pub fn missing(&self) -> Vec<usize> {
+        NUMBERS.into_iter().filter(|&number| self.answers[number] == 0).collect()
+    }
+
+    /// The calls and the answers in words.
+    pub fn line(&self) -> String {
+        let calls: u64 = self.answers.iter().sum();
+        let came = self.answers.iter().enumerate().filter(|&(_, &times)| times > 0);
+        let words: Vec<String> = came.map(|(number, times)| format!("{number}: {times}")).collect();
+        format!("{calls} calls, answers {}", words.join(", "))
+    }
+}

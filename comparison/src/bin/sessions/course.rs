@@ -1,0 +1,126 @@
+//! Holds one random session: its calls, the tally beside them, and the container that it leaves.
+
+use crate::counts::Counts;
+use crate::plan::Plan;
+use crate::reload::reload;
+use crate::same::{same, same_list};
+use crate::twin::Twin;
+use crate::{drawn, hostile};
+use reference::{Rng, Tally};
+
+/// The most calls between opening and closing.
+const CALLS: usize = 60;
+
+/// A session in order so far, with the tally of its writes and the bytes accepted from each task.
+struct Course {
+    plan: Plan,
+    twin: Twin,
+    tally: Tally,
+    accepted: Vec<Vec<u8>>,
+}
+
+/// Runs a session from its opening to the calls after its close.
+pub fn run(rng: &mut Rng, counts: &mut Counts) -> Result<(), String> {
+    let (plan, wanted) = drawn::plan(rng);
+    let (number, mut twin) = Twin::open(&plan, rng)?;
+    counts.add(number);
+    same("opening, the answer by the plan's faults", number, wanted)?;
+    if number != 0 {
+        return refused(&mut twin, counts);
+    }
+    let mut course = Course::new(plan, twin);
+    for _ in 0..rng.below(CALLS + 1) {
+        match rng.below(20) {
+            0 | 1 => course.hostile(rng, counts)?,
+            2 if rng.one_in(4) => course.closed_copy(rng, counts).map(drop)?,
+            _ => course.write(rng, counts)?,
+        }
+    }
+    let mut closed = course.closed_copy(rng, counts)?;
+    refused(&mut closed, counts)
+}
+
+/// A write and a close of a closed session.
+fn refused(twin: &mut Twin, counts: &mut Counts) -> Result<(), String> {
+    for number in [twin.write(1, b"x")?, twin.close()?.0] {
+        counts.add(number);
+        same("a call of a closed session, the answer", number, 17)?;
+    }
+    Ok(())
+}
+
+impl Course {
+    fn new(plan: Plan, twin: Twin) -> Course {
+        let tasks = plan.sizes.iter().enumerate();
+        let tally = Tally::new(plan.k, tasks.map(|(task, &size)| (size, plan.starts(task))));
+        let accepted = vec![vec![]; plan.sizes.len()];
+        Course { plan, twin, tally, accepted }
+    }
+
+    /// A write that the tally counts too.
+    fn write(&mut self, rng: &mut Rng, counts: &mut Counts) -> Result<(), String> {
+        let (task, bytes) = self.request(rng);
+        let number = self.twin.write(task, &bytes)?;
+        counts.add(number);
+
+        let told = self.tally.feed(task, bytes.len() as u64);
+        let call = format!("write of {} bytes to task {task}", bytes.len());
+        same(&format!("{call}, the answer by the tally"), number, told.number)?;
+        if let Some(offset) = told.offset {
+            let found = &self.twin.image()[offset as usize..][..bytes.len()];
+            same_list(&format!("{call}, the bytes at the tally's offset"), found, &bytes)?;
+        }
+        if number == 0 {
+            self.accepted[task as usize - 1].extend(bytes);
+        }
+        Ok(())
+    }
+
+    /// A write or a close of a copy in which one thing is changed.
+    fn hostile(&self, rng: &mut Rng, counts: &mut Counts) -> Result<(), String> {
+        let mut copy = self.twin.clone();
+        let wanted = hostile::change(&mut copy, &self.plan, rng);
+        let (task, bytes) = self.request(rng);
+        let number = if rng.one_in(3) { copy.close()?.0 } else { copy.write(task, &bytes)? };
+        counts.add(number);
+        same("a call after one change, the answer", number, wanted.unwrap_or(number))
+    }
+
+    /// A copy that is closed, after its container was loaded and read.
+    fn closed_copy(&self, rng: &mut Rng, counts: &mut Counts) -> Result<Twin, String> {
+        let mut copy = self.twin.clone();
+        let (number, length) = copy.close()?;
+        counts.add(number);
+        same("close, the answer", number, 0)?;
+        let blocks = copy.session().head.counts.iter().max().map_or(0, |&most| most);
+        same("close, the length by the paper", length, self.plan.end(blocks))?;
+        reload(&copy, length, &self.accepted, rng)
+            .map_err(|difference| format!("the closed container, {difference}"))?;
+        Ok(copy)
+    }
+
+    /// A task, mostly one that there is, and bytes of a length at a bound or of any.
+    fn request(&self, rng: &mut Rng) -> (u64, Vec<u8>) {
+        let n = self.plan.sizes.len();
+        let task = rng.below(n);
+        let (size, left) = (self.plan.sizes[task] as usize, self.left(task));
+        let length = match rng.below(8) {
+            0 => rng.pick(&[0, 1, size, size + 1]),
+            1 | 2 => rng.pick(&[left, left + 1]),
+            3 | 4 => rng.below(size + 1),
+            _ => rng.below(size / 4 + 1),
+        };
+        let none = rng.pick(&[0, n as u64 + 1, u64::MAX]);
+        (if rng.one_in(20) { none } else { task as u64 + 1 }, rng.bytes(length))
+    }
+
+    /// What is left of the chunk that a task, counted from 0, has in use.
+    fn left(&self, task: usize) -> usize {
+        let (head, n) = (&self.twin.session().head, self.plan.sizes.len());
+        let used = match head.counts[task] as usize {
+            0 => 0,
+            count => self.twin.table()[(count - 1) * n + task] as usize,
+        };
+        self.plan.sizes[task] as usize - used
+    }
+}

@@ -1,0 +1,108 @@
+//! Holds the changes to a good session, each of one thing, after which a call may be out of order.
+
+use crate::plan::Plan;
+use crate::twin::Twin;
+use reference::{Rng, Session};
+
+/// Changes one thing; gives the number that every call must then answer, or none where that depends on more than the change.
+pub fn change(twin: &mut Twin, plan: &Plan, rng: &mut Rng) -> Option<u32> {
+    match rng.below(6) {
+        0 | 1 => {
+            twin.change_record(|session| spoil_record(session, rng));
+            Some(17)
+        }
+        2 => {
+            lend_less(twin, plan, rng);
+            Some(18)
+        }
+        3 => {
+            spoil_cell(twin, rng);
+            Some(19)
+        }
+        4 => {
+            twin.change_record(|session| change_record(session, rng));
+            None
+        }
+        _ => {
+            change_cell(twin, rng);
+            None
+        }
+    }
+}
+
+/// One field that breaks its rule.
+fn spoil_record(session: &mut Session, rng: &mut Rng) {
+    let Session { head, k } = session;
+    let n = head.n as usize;
+    let task = rng.below(n);
+    match rng.below(9) {
+        0 => head.order = rng.pick(&[2, u32::MAX]),
+        1 => head.blocksize = rng.pick(&[0, 256, 768, 8_388_608]),
+        2 => head.n = rng.pick(&[0, 65, u32::MAX]),
+        3 => head.counts[task] = rng.pick(&[u64::from(*k) + 1, u64::MAX]),
+        4 => *k = rng.pick(&[0, 33, u32::MAX]),
+        5 => head.closed = rng.pick(&[1, 7]),
+        6 if n > 1 => head.ranks[task] = head.ranks[(task + 1 + rng.below(n - 1)) % n],
+        6 | 7 => head.ranks[task] = rng.pick(&[1 << 31, u64::MAX]),
+        _ => head.sizes[task] = rng.pick(&[0, 1_073_741_825, u64::MAX]),
+    }
+}
+
+/// An image or a table that is too short.
+fn lend_less(twin: &mut Twin, plan: &Plan, rng: &mut Rng) {
+    match rng.below(4) {
+        0 => twin.bytes = plan.needed_bytes() - 1,
+        1 => twin.bytes = rng.pick(&[0, 1088]),
+        2 => twin.cells = plan.needed_cells() - 1,
+        _ => twin.cells = 0,
+    }
+}
+
+/// One of the n·K cells against META2's rule.
+fn spoil_cell(twin: &mut Twin, rng: &mut Rng) {
+    let (at, used, size) = any_cell(twin, rng);
+    let value = match used {
+        true => rng.pick(&[-1, -2, size + 1, i64::MIN, i64::MAX]),
+        false => rng.pick(&[0, 1, size, -2, i64::MIN]),
+    };
+    twin.set_cell(at, value);
+}
+
+/// One field set to another value: near the old one, or where it is not judged.
+fn change_record(session: &mut Session, rng: &mut Rng) {
+    let Session { head, k } = session;
+    let n = head.n as usize;
+    let task = rng.below(n);
+    match rng.below(9) {
+        0 => head.version = rng.number() as i32,
+        1 => head.order = 1 - head.order,
+        2 => head.blocksize = rng.pick(&[head.blocksize / 2, 2 * head.blocksize]),
+        3 => head.n = rng.pick(&[head.n - 1, head.n + 1]),
+        4 => *k = rng.pick(&[*k - 1, *k + 1]),
+        5 => head.counts[task] = rng.pick(&[head.counts[task] + 1, u64::from(*k)]),
+        6 => head.sizes[task] = rng.pick(&[1, head.sizes[task] + 1, 1_073_741_824]),
+        7 if n < 64 => {
+            let list = rng.below(3);
+            [&mut head.ranks, &mut head.sizes, &mut head.counts][list][63] = rng.number();
+        }
+        _ => head.ranks[task] = rng.below(1 << 31) as u64,
+    }
+}
+
+/// A used cell set to another value that it may have, or a cell behind the n·K that are judged.
+fn change_cell(twin: &mut Twin, rng: &mut Rng) {
+    let (at, used, size) = any_cell(twin, rng);
+    if used {
+        twin.set_cell(at, rng.below(size as usize + 1) as i64);
+    } else {
+        twin.set_cell(twin.table().len() - 1, rng.number() as i64);
+    }
+}
+
+/// One of the n·K cells: its index, whether it is of a chunk in use, and the task's size.
+fn any_cell(twin: &Twin, rng: &mut Rng) -> (usize, bool, i64) {
+    let Session { head, k } = twin.session();
+    let (task, chunk) = (rng.below(head.n as usize), rng.below(*k as usize));
+    let used = (chunk as u64) < head.counts[task];
+    (chunk * head.n as usize + task, used, head.sizes[task] as i64)
+}

@@ -1,0 +1,55 @@
+//! Holds the comparison of random sessions: the library against the reference, and against the tally of demand 3, call by call.
+
+mod counts;
+mod course;
+mod drawn;
+mod hostile;
+mod numbers;
+mod plan;
+mod reload;
+mod same;
+mod twin;
+
+use counts::Counts;
+use reference::Rng;
+use std::process::ExitCode;
+
+/// From so many sessions on, every number has to come up.
+const ENOUGH: u32 = 2_000;
+
+fn main() -> ExitCode {
+    let args: Vec<String> = std::env::args().skip(1).collect();
+    let words: Vec<&str> = args.iter().map(String::as_str).collect();
+    let numbers = match words[..] {
+        [seed, count] => seed.parse().ok().zip(count.parse().ok()),
+        _ => None,
+    };
+    let done = match numbers {
+        Some((seed, count)) => compare(seed, count),
+        None => Err("sessions SEED COUNT: both are numbers".to_string()),
+    };
+    match done {
+        Ok(line) => println!("sessions: {line}"),
+        Err(line) => {
+            eprintln!("sessions: {line}");
+            return ExitCode::FAILURE;
+        }
+    }
+    ExitCode::SUCCESS
+}
+
+/// Runs the paper's numbers and so many sessions; gives the line to print.
+fn compare(seed: u64, count: u32) -> Result<String, String> {
+    let (mut rng, mut counts) = (Rng::new(seed), Counts::default());
+    numbers::check(&mut rng).map_err(|difference| format!("seed {seed}, {difference}"))?;
+    for session in 1..=count {
+        course::run(&mut rng, &mut counts)
+            .map_err(|difference| format!("seed {seed}, session {session}, {difference}"))?;
+    }
+    let line = format!("{count} sessions of seed {seed}, {}", counts.line());
+    match counts.missing()[..] {
+        [] => Ok(line),
+        _ if count < ENOUGH => Ok(line),
+        ref missing => Err(format!("{line}; never an answer: {missing:?}")),
+    }
+}

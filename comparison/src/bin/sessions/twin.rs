@@ -1,0 +1,147 @@
+//! Holds a session as both sides have it, and its calls, each made on both sides and compared in all that it leaves.
+
+use crate::plan::Plan;
+use crate::same::{same, same_list, same_session};
+use comparison::Session;
+use reference::Rng;
+
+/// Bytes and cells behind the lent ones, which no call may change either.
+const BEHIND: usize = 8;
+
+/// A session as one side has it.
+#[derive(Clone)]
+struct Side<S> {
+    session: S,
+    image: Vec<u8>,
+    table: Vec<i64>,
+}
+
+/// A session as both sides have it, and how many bytes of the image and cells of the table a call is lent.
+#[derive(Clone)]
+pub struct Twin {
+    library: Side<Session>,
+    reference: Side<reference::Session>,
+    pub bytes: usize,
+    pub cells: usize,
+}
+
+impl Twin {
+    /// Opens a session over random bytes and cells, and gives the answer beside it.
+    pub fn open(plan: &Plan, rng: &mut Rng) -> Result<(u32, Twin), String> {
+        let (bytes, cells) = (plan.bytes, plan.cells);
+        let image = rng.bytes(bytes + BEHIND);
+        let table: Vec<i64> = (0..cells + BEHIND).map(|_| rng.number() as i64).collect();
+        let (answer, library) = library_open(plan, image.clone(), table.clone());
+        let (number, reference) = reference_open(plan, image, table);
+        let twin = Twin { library, reference, bytes, cells };
+        twin.agree("opening", answer, number)?;
+        Ok((number, twin))
+    }
+
+    /// Writes to a task, counted from 1, and gives the answer.
+    pub fn write(&mut self, task: u64, bytes: &[u8]) -> Result<u32, String> {
+        let Side { session, image, table } = &mut self.library;
+        let (image, table) = (&mut image[..self.bytes], &mut table[..self.cells]);
+        let written = comparison::write(*session, image, table, task, bytes);
+        *session = written.session;
+
+        let Side { session, image, table } = &mut self.reference;
+        let (image, table) = (&mut image[..self.bytes], &mut table[..self.cells]);
+        let number = reference::write(session, image, table, task, bytes).err().unwrap_or(0);
+        let call = format!("write of {} bytes to task {task}", bytes.len());
+        self.agree(&call, written.refusal, number)?;
+        Ok(number)
+    }
+
+    /// Closes the session, and gives the answer and the length.
+    pub fn close(&mut self) -> Result<(u32, u64), String> {
+        let Side { session, image, table } = &mut self.library;
+        let closed = comparison::close(*session, &mut image[..self.bytes], &table[..self.cells]);
+        *session = closed.session;
+
+        let Side { session, image, table } = &mut self.reference;
+        let answer = reference::close(session, &mut image[..self.bytes], &table[..self.cells]);
+        let (number, length) = answer.map_or_else(|number| (number, 0), |length| (0, length));
+        self.agree("close", closed.refusal, number)?;
+        same("close, the length", closed.length, length)?;
+        Ok((number, length))
+    }
+
+    /// The record, the same on both sides.
+    pub fn session(&self) -> &reference::Session {
+        &self.reference.session
+    }
+
+    /// The image, the same on both sides.
+    pub fn image(&self) -> &[u8] {
+        &self.library.image
+    }
+
+    /// The table, the same on both sides.
+    pub fn table(&self) -> &[i64] {
+        &self.library.table
+    }
+
+    /// Changes the record on both sides.
+    pub fn change_record(&mut self, change: impl FnOnce(&mut reference::Session)) {
+        change(&mut self.reference.session);
+        self.library.session = Session::from(&self.reference.session);
+    }
+
+    /// Sets a cell on both sides.
+    pub fn set_cell(&mut self, at: usize, value: i64) {
+        self.library.table[at] = value;
+        self.reference.table[at] = value;
+    }
+
+    /// The answers to a call and all that it left: the records, the images and the tables.
+    fn agree(&self, call: &str, library: u32, reference: u32) -> Result<(), String> {
+        let (ours, theirs) = (&self.library, &self.reference);
+        let record = Session::from(&theirs.session);
+        same("the answer", library, reference)
+            .and_then(|()| same_session(&ours.session, &record))
+            .and_then(|()| same_list("the image", &ours.image, &theirs.image))
+            .and_then(|()| same_list("the table", &ours.table, &theirs.table))
+            .map_err(|difference| format!("{call}, {difference}"))
+    }
+}
+
+/// The library's answer to an opening, and what it left.
+fn library_open(plan: &Plan, mut image: Vec<u8>, mut table: Vec<i64>) -> (u32, Side<Session>) {
+    let answer = comparison::open(
+        plan.order,
+        plan.version,
+        plan.patch,
+        plan.blocksize,
+        &plan.ranks,
+        &plan.sizes,
+        &plan.prefix,
+        plan.k,
+        &mut image[..plan.bytes],
+        &mut table[..plan.cells],
+    );
+    (answer.refusal, Side { session: answer.session, image, table })
+}
+
+/// The reference's answer to an opening, and what it left.
+fn reference_open(
+    plan: &Plan,
+    mut image: Vec<u8>,
+    mut table: Vec<i64>,
+) -> (u32, Side<reference::Session>) {
+    let answer = reference::open(
+        plan.order,
+        plan.version,
+        plan.patch,
+        plan.blocksize,
+        &plan.ranks,
+        &plan.sizes,
+        &plan.prefix,
+        plan.k,
+        &mut image[..plan.bytes],
+        &mut table[..plan.cells],
+    );
+    let number = answer.as_ref().err().copied().unwrap_or(0);
+    let session = answer.unwrap_or_else(|_| reference::Session::refused());
+    (number, Side { session, image, table })
+}

@@ -1,0 +1,204 @@
+-- What closing leaves of a session, by what its opening was given: META1 and META2 in the image, and the counts and cells that META2
+-- holds. Assumes nothing.
+use mathlib.Core.Path.{_≡_, refl, sym, ap, ap₂, _∙_, subst}
+use mathlib.Core.Bool.{true}
+use mathlib.Core.List.{List, _++_}
+use mathlib.Core.Logic.{inl, inr}
+use Prim.Native.Nat.{ℕ, _+_, _-_, _≤_, _<_}
+use native.Mathlib.Nat.{zero-add}
+use native.Mathlib.Omega.{arith}
+use lib.IntN.{ℤ}
+use lib.ListN.{length, take, drop, getD, length-append}
+use lib.Seq.{length-take-le, take-add}
+use Rattle.endian.specs.Signed.{natural}
+use Rattle.endian.proofs.Below.{part-cong}
+use Rattle.endian.proofs.Signed.{InRange, within-natural}
+use Rattle.endian.proofs.Splice.{part-front}
+use Rattle.layout.specs.Limits.{maxSize}
+use Rattle.layout.specs.Areas.{meta1End, capacity, meta2Start, meta2Length, meta2End}
+use Rattle.layout.proofs.Bounds.{sound-size}
+use Rattle.layout.proofs.Chunks.{meta1-before-data, capacity-small}
+use Rattle.layout.proofs.Power.{blocksize-facts}
+use Rattle.meta.specs.declared.head.Head.{Head}
+use Rattle.meta.specs.Meta1.{lastAt, lastFields, meta1Front, meta1}
+use Rattle.meta.specs.Meta2.{valueIndex, unused, meta2}
+use Rattle.meta.specs.Heads.{entry, cell, isBig, holds, meta2At, endAt, cellsAgree, headOf}
+use Rattle.meta.proofs.Rules.{values-used, values-unused}
+use Rattle.meta.proofs.Heads.{holds-made, meta2At-made, endAt-made}
+use Rattle.session.specs.Records.{State}
+use Rattle.session.specs.Open.{Opening, tasks, openHead}
+use Rattle.session.specs.Close.{maxchunksOf, closeRefusal, closeAnswer, closeImage}
+use Rattle.session.proofs.Openings.{PlanHolds, plan-sound}
+use Rattle.session.proofs.Sessions.{StateHolds, state-holds}
+use Rattle.session.proofs.Closings.{Closes, closes}
+use Rattle.container.specs.Format.{partOf}
+use Rattle.container.specs.Demands.{CloseStores, contentsOf}
+use Rattle.container.proofs.Refusing.{close-number}
+use Rattle.container.proofs.Stores.{close-stores}
+
+-- a session that stands where an opening began: it has the opening's head, passes its tests, and META1's front is in its image
+pub record Closable (o : Opening) (st : State) : Type 0 where
+  pub plan : PlanHolds o
+  pub head-is : st .session .head ≡ openHead o
+  pub passes : closeRefusal st ≡ 0
+  pub front : take (lastAt (tasks o)) (st .image) ≡ meta1Front (openHead o) (o .prefix)
+
+-- its closed image, and anything after it
+abbrev pub closedAs : State → List ℕ → List ℕ
+closedAs st tail = take (closeAnswer st .length) (closeImage st) ++ tail
+
+-- where META2 starts and ends in it, and the cell of chunk k + 1 of task i + 1
+abbrev pub startIn : Opening → State → ℕ
+startIn o st = meta2Start (o .blocksize) (tasks o) (entry (o .sizes)) (maxchunksOf (st .session))
+
+abbrev pub endIn : Opening → State → ℕ
+endIn o st = meta2End (o .blocksize) (tasks o) (entry (o .sizes)) (maxchunksOf (st .session))
+
+abbrev pub valueIn : Opening → State → ℕ → ℕ → ℤ
+valueIn o st k i = cell (st .table) (valueIndex (tasks o) k i)
+
+module _ (o : Opening) (st : State) (c : Closable o st) where
+  abbrev m : ℕ
+  m = maxchunksOf (st .session)
+
+  abbrev at : ℕ
+  at = startIn o st
+
+  abbrev end : ℕ
+  end = endIn o st
+
+  state : StateHolds st
+  unfolding closeRefusal
+  state = state-holds st (c .passes)
+
+  pub closing : Closes st
+  closing = closes st state
+
+  stores : CloseStores st m
+  stores = close-stores st (close-number st ∙ c .passes)
+
+  -- ---- what closing stores, by what the opening was given
+
+  start-made : meta2At (openHead o) m ≡ at
+  unfolding openHead
+  start-made = meta2At-made _ _ _ _ _ _ _ (c .plan .few-tasks) m
+
+  end-made : endAt (openHead o) m ≡ end
+  unfolding openHead
+  end-made = endAt-made _ _ _ _ _ _ _ (c .plan .few-tasks) m
+
+  start-is : meta2At (st .session .head) m ≡ at
+  start-is = ap (λ (h : Head). meta2At h m) (c .head-is) ∙ start-made
+
+  end-is : endAt (st .session .head) m ≡ end
+  end-is = ap (λ (h : Head). endAt h m) (c .head-is) ∙ end-made
+
+  tasks-are : st .session .head .n ≡ tasks o
+  unfolding openHead headOf
+  tasks-are = ap (λ (h : Head). h .n) (c .head-is)
+
+  pub closed-as-long : length (closeImage st) ≡ length (st .image)
+  closed-as-long = stores .as-long
+
+  pub image-long : end ≤ length (closeImage st)
+  image-long = omega (arith, end-is, closing .image-long, stores .as-long)
+
+  pub apart : meta1End (tasks o) ≤ at
+  unfolding meta2Start
+  apart =
+      let f = blocksize-facts (o .blocksize) (c .plan .block) in
+      omega (arith, meta1-before-data (o .blocksize) (tasks o) (omega arith))
+
+  pub end-after : end ≡ at + meta2Length (tasks o) m
+  unfolding meta2End
+  end-after = refl
+
+  fields-there : take 12 (drop (lastAt (tasks o)) (closeImage st)) ≡ lastFields (isBig (openHead o)) m at
+  unfolding openHead headOf
+  fields-there =
+      subst (λ (h : Head). take 12 (drop (lastAt (h .n)) (closeImage st)) ≡ lastFields (isBig h) m (meta2At h m)) (c .head-is)
+      (stores .fields)
+      ∙ ap (lastFields (isBig (openHead o)) m) start-made
+
+  abbrev pub values : Head → List ℕ
+  values h = meta2 (isBig h) (h .n) m (entry (st .session .counts)) (cell (st .table))
+
+  second-there : take (meta2Length (tasks o) m) (drop at (closeImage st)) ≡ values (openHead o)
+  second-there =
+      let size : endAt (openHead o) m - meta2At (openHead o) m ≡ meta2Length (tasks o) m =
+      omega (arith, end-made, start-made, end-after) in
+      ap₂ (λ (k b : ℕ). take k (drop b (closeImage st))) (sym size) (sym start-made)
+      ∙ subst (λ (h : Head). take (endAt h m - meta2At h m) (drop (meta2At h m) (closeImage st)) ≡ values h) (c .head-is) (stores .second)
+
+  -- bytes that closing leaves: those before META1's last two fields, and those between META1 and META2
+  before-kept : (j : ℕ) → j < lastAt (tasks o) → getD (closeImage st) j 0 ≡ getD (st .image) j 0
+  before-kept j l = stores .others j (inl (rw tasks-are l))
+
+  pub between-kept : (j : ℕ) → meta1End (tasks o) ≤ j → j < at → getD (closeImage st) j 0 ≡ getD (st .image) j 0
+  between-kept j l h = stores .others j (inr (inl (rw tasks-are l, rw start-is h)))
+
+  -- ---- the cells, by what the opening was given
+
+  agree : cellsAgree (openHead o) (st .session .planned) (st .session .counts) (st .table) ≡ true
+  agree = subst (λ (h : Head). cellsAgree h (st .session .planned) (st .session .counts) (st .table) ≡ true) (c .head-is) (state .agree)
+
+  pub closed-most : (i : ℕ) → i < tasks o → entry (st .session .counts) i ≤ m
+  closed-most i l = stores .most i (rw tasks-are l)
+
+  pub closed-reached : (i : ℕ) × (i < tasks o) × (entry (st .session .counts) i ≡ m)
+  closed-reached = let (i, l, e) = stores .reached in (i, rw (sym tasks-are) l, e)
+
+  pub used : (i k : ℕ) → i < tasks o → k < entry (st .session .counts) i
+      → InRange 0 (capacity (o .blocksize) (entry (o .sizes) i)) (valueIn o st k i)
+  unfolding cellsAgree openHead headOf
+  used i k l u =
+      let there : k < st .session .planned = omega (arith, closed-most i l, closing .planned) in
+      let rule =
+      values-used (tasks o) (st .session .planned) (holds (openHead o)) (entry (st .session .counts)) (cell (st .table)) agree i k l
+      there u in
+      let held : holds (openHead o) i ≡ capacity (o .blocksize) (entry (o .sizes) i) =
+      holds-made _ _ _ _ _ _ _ (c .plan .few-tasks) i l in
+      within-natural 0 _ (valueIn o st k i) (rw held at rule)
+
+  pub not-used : (i k : ℕ) → i < tasks o → entry (st .session .counts) i ≤ k → k < m → valueIn o st k i ≡ unused
+  unfolding cellsAgree openHead headOf
+  not-used i k l u h =
+      values-unused (tasks o) (st .session .planned) (holds (openHead o)) (entry (st .session .counts)) (cell (st .table)) agree i k l
+      (omega (arith, closing .planned)) u
+
+  pub used-small : (i k : ℕ) → i < tasks o → k < entry (st .session .counts) i → natural (valueIn o st k i) ≤ maxSize
+  used-small i k l u =
+      omega (arith, used i k l u .2, capacity-small (o .blocksize) (entry (o .sizes) i) (sound-size (plan-sound o (c .plan)) i l .1))
+
+  -- ---- the image, whatever follows it
+
+  module _ (tail : List ℕ) where
+    length-said : closeAnswer st .length ≡ end
+    length-said = stores .length-is ∙ end-is
+
+    pub same-part : (b k : ℕ) → b + k ≤ end → take k (drop b (closedAs st tail)) ≡ take k (drop b (closeImage st))
+    same-part b k l =
+        part-front b k (closeAnswer st .length) (closeImage st) tail (omega (arith, length-said)) (omega (arith, length-said, image-long))
+
+    pub closed-long : end ≤ length (closedAs st tail)
+    closed-long =
+        simp length-append
+        (omega (arith, length-said, length-take-le (closeAnswer st .length) (closeImage st) (omega (arith, length-said, image-long))))
+
+    pub meta1-there : take (meta1End (tasks o)) (closedAs st tail) ≡ meta1 (openHead o) (o .prefix) m at
+    unfolding meta1 meta1End
+    meta1-there =
+        let n : ℕ = tasks o in
+        let split : meta1End n ≡ lastAt n + 12 = omega arith in
+        let fits : lastAt n ≤ length (closeImage st) = omega (arith, apart, end-after, image-long) in
+        same-part 0 (meta1End n) (omega (arith, apart, end-after))
+        ∙ ap (λ (k : ℕ). take k (closeImage st)) split
+        ∙ take-add (lastAt n) 12 (closeImage st)
+        ∙ ap₂ _++_
+        (part-cong (lastAt n) 0 (closeImage st) (st .image) 0 (rw zero-add fits) (rw (zero-add, sym (stores .as-long)) fits)
+        (λ j l. rw zero-add (before-kept j l))
+        ∙ c .front)
+        fields-there
+
+    pub part-there : partOf (closedAs st tail) (contentsOf o st) ≡ values (openHead o)
+    part-there = same-part at (meta2Length (tasks o) m) (omega (arith, end-after)) ∙ second-there

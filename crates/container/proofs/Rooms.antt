@@ -1,0 +1,104 @@
+-- Demand 3: from every accepted opening, a task can count on its room, over every list of writes. Assumes nothing.
+use mathlib.Core.Path.{_≡_, refl, sym, ap, _∙_}
+use mathlib.Core.List.{List}
+use Prim.Native.Nat.{ℕ, _+_}
+use native.Mathlib.Nat.{zero-add}
+use native.Mathlib.Omega.{arith}
+use lib.IntN.{ℤ}
+use lib.ListN.{length}
+use Rattle.meta.specs.Heads.{endAt, headOf}
+use Rattle.session.specs.Records.{State}
+use Rattle.session.specs.Open.{Opening, tasks, openRefusal, openHead, opened}
+use Rattle.session.specs.Write.{Request, writeRefusal, writes, refusals}
+use Rattle.room.specs.Tally.{Plan, planOf, blank, askOf, asks, answers, fateIn, answerTo, toldAll, held}
+use Rattle.room.proofs.Share.{Good, good-blank, good-all, refused-full, at-most, alone}
+use Rattle.room.proofs.Places.{Layout, sane-blank, imageAfter, length-after, placed, others, own-blocks}
+use Rattle.room.proofs.Follows.{planIn, Follows, Runs, runs, step}
+use Rattle.room.proofs.Opened.{plan-is, opened-follows, opened-layout}
+use Rattle.container.specs.Demands.{Answers, Placed, Kept, Room}
+use Rattle.container.proofs.Refusing.{open-number}
+
+module _ (o : Opening) (image : List ℕ) (table : List ℤ) (zero : openRefusal o (length image) (length table) ≡ 0) where
+  abbrev start : State
+  start = opened o image table
+
+  same : planIn (openHead o) (o .planned) ≡ planOf o
+  same = sym (plan-is o image table zero)
+
+  first : Follows (openHead o) (o .planned) blank start
+  first = opened-follows o image table zero
+
+  tasks-are : openHead o .n ≡ tasks o
+  unfolding openHead headOf
+  tasks-are = refl
+
+  module _ (qs : List Request) where
+    run : Runs (openHead o) (o .planned) blank start qs
+    run = runs first qs
+
+    as-tally : refusals start qs ≡ answers (planOf o) blank (asks qs)
+    as-tally = run .numbers-are ∙ ap (λ (p : Plan). answers p blank (asks qs)) same
+
+    -- what a task holds, and its tally
+    good : (task : ℕ) → Good (o .planned) (planOf o .c task) (toldAll (planOf o) blank (asks qs) task) (held task (asks qs) (refusals start qs))
+    good task =
+        rw (zero-add, ← as-tally) at (good-all (planOf o) task (asks qs) blank 0 (good-blank (o .planned) (planOf o .c task)))
+
+    next-number : (q : Request) → writeRefusal (writes start qs) q ≡ answerTo (fateIn (planOf o) (toldAll (planOf o) blank (asks qs)) (askOf q))
+    next-number q =
+        step (run .follows) q .number-is
+        ∙ ap (λ (p : Plan). answerTo (fateIn p (toldAll p blank (asks qs)) (askOf q))) same
+
+    answers-hold : Answers o start qs
+    answers-hold = record {
+      as-tally = as-tally;
+      alone = λ task. rw as-tally (alone (planOf o) task (asks qs) blank blank refl);
+      least-share = λ q e. refused-full (planOf o) (askOf q) _ _ (good (q .task)) (sym (next-number q) ∙ e);
+      most = λ task. at-most (good task);
+    }
+
+    -- ---- the bytes
+
+    image-is : writes start qs .image ≡ imageAfter (planOf o) blank (start .image) qs
+    image-is = run .image-is ∙ ap (λ (p : Plan). imageAfter p blank (start .image) qs) same
+
+    layout : Layout (o .blocksize) (endAt (openHead o) (o .planned)) (planOf o)
+    layout = opened-layout o image table zero
+
+    placed-hold : Placed o start qs
+    placed-hold = record {
+      lands = λ l. rw image-is (placed _ _ (planOf o) layout (start .image) (first .image-long) (sane-blank (planOf o)) l);
+      others = λ at none. rw image-is (others _ _ (planOf o) layout qs blank (start .image) at (first .image-long) (sane-blank (planOf o)) none);
+      as-long = rw image-is (length-after _ _ (planOf o) layout qs blank (start .image) (first .image-long) (sane-blank (planOf o)));
+      own-blocks = λ l l′ e. own-blocks _ _ (planOf o) layout (sane-blank (planOf o)) l l′ e;
+    }
+
+    -- ---- the record and the table
+
+    last : Follows (openHead o) (o .planned) (toldAll (planOf o) blank (asks qs)) (writes start qs)
+    last = rw same at (run .follows)
+
+    kept-hold : Kept o start qs
+    unfolding openHead headOf
+    kept-hold = record {
+      head = last .head-is ∙ sym (first .head-is);
+      planned = last .planned-is ∙ sym (first .planned-is);
+      closed = last .unmarked ∙ sym (first .unmarked);
+      counts = λ i l. last .counts-are i l;
+      last-cells = λ i k l e. last .cells-are i k l (omega (arith, e, good (i + 1) .most)) .last e;
+      later-cells = λ i k l e m. last .cells-are i k l m .none e;
+      other-cells = run .other-cells;
+      as-many = run .table-as-long;
+    }
+
+pub room : (o : Opening) (image : List ℕ) (table : List ℤ) → openRefusal o (length image) (length table) ≡ 0 → Room o image table
+room o image table zero = record {
+  answered = answers-hold o image table zero;
+  placed = placed-hold o image table zero;
+  kept = kept-hold o image table zero;
+  alike = λ image′ table′ accepted qs qs′ task e.
+      let zero′ = sym (open-number o image′ table′) ∙ accepted in
+      answers-hold o image table zero qs .alone task
+      ∙ ap (answers (planOf o) blank) e
+      ∙ sym (answers-hold o image′ table′ zero′ qs′ .alone task);
+}

@@ -1,0 +1,6 @@
+pub mod Fates
+pub mod Share
+pub mod Places
+pub mod Follows
+pub mod Opened
+pub mod Streams

@@ -1,0 +1,193 @@
+-- The tests of an opening as facts: what holds of its arguments where they pass, that its head is then sound, and what it leaves.
+-- Assumes nothing.
+use mathlib.Core.Path.{_≡_, refl, sym, subst, _∙_}
+use mathlib.Core.Bool.{true, not}
+use mathlib.Core.List.{List, [], _∷_}
+use Prim.Native.Nat.{ℕ, _*_, _≤_, _<_}
+use native.Mathlib.Omega.{arith}
+use lib.Dec.{ltb}
+use lib.IntN.{ℤ, pos}
+use lib.ListN.{length, replicate}
+use borrow.Author.Tests.{ltb-false, eqb-true, not-false}
+use Rattle.endian.specs.Splice.{splice}
+use Rattle.endian.proofs.Below.{or-left, or-right}
+use Rattle.endian.proofs.Signed.{within-facts}
+use Rattle.layout.specs.Limits.{maxTasks, maxBlocks, Sound, blocksizeRule, tasksRule, ranksRule, sizesRule, plannedRule}
+use Rattle.layout.specs.Areas.{dataStart, meta2Start, meta2End}
+use Rattle.meta.specs.Refusals.{Test, test, firstFailing}
+use Rattle.meta.specs.Meta1.{prefixLength, openingBytes}
+use Rattle.meta.specs.Meta2.{unused}
+use Rattle.meta.specs.Heads.{entry, isOrder, headSound, tooShort, endAt, headOf}
+use Rattle.meta.proofs.Refusals.{Numbered, first-passes, first-fails, both-pass, none-fails, when-accepted, when-refused}
+use Rattle.meta.proofs.Fields.{tasks-facts}
+use Rattle.meta.proofs.Filled.{filled-list}
+use Rattle.meta.proofs.Heads.{endAt-made}
+use Rattle.session.specs.Open.{Opening, tasks, shapeTests, numberTests, planTests, openRefusal, openHead, openSession}
+use Rattle.session.specs.Records.{noSession}
+use Rattle.session.specs.Open.{opens, openAnswer, openImage, openTable}
+
+-- the first of them alone: as many sizes as ranks
+pub shape-listed : (order blocksize ranks sizes prefix : ℕ) → firstFailing (shapeTests order blocksize ranks sizes prefix) ≡ 0 → ranks ≡ sizes
+unfolding shapeTests
+shape-listed order blocksize ranks sizes prefix e =
+    let (first, (block, (count, rest))) = none-fails (shapeTests order blocksize ranks sizes prefix) (omega arith) e in
+    eqb-true _ _ (not-false _ (or-right (not (tasksRule (pos ranks))) _ count))
+
+-- what the tests of the plan ask of an opening's arguments
+pub record PlanHolds (o : Opening) : Type 0 where
+  pub order : isOrder (o .order) ≡ true
+  pub block : blocksizeRule (pos (o .blocksize)) ≡ true
+  pub task-rule : tasksRule (pos (tasks o)) ≡ true
+  pub some-tasks : 1 ≤ tasks o
+  pub few-tasks : tasks o ≤ maxTasks
+  pub listed : length (o .sizes) ≡ tasks o
+  pub prefix-short : length (o .prefix) ≤ prefixLength
+  pub ranked : ranksRule (tasks o) (λ i. pos (entry (o .ranks) i)) ≡ true
+  pub sized : sizesRule (tasks o) (λ i. pos (entry (o .sizes) i)) ≡ true
+  pub some : 1 ≤ o .planned
+  pub few : o .planned ≤ maxBlocks
+
+-- what all its tests ask, of the lengths of the image and of the table too
+pub record OpeningHolds (o : Opening) (imageLength cells : ℕ) : Type 0 where
+  pub plan : PlanHolds o
+  pub image-long : endAt (openHead o) (o .planned) ≤ imageLength
+  pub table-long : tasks o * o .planned ≤ cells
+
+module _ (o : Opening) where
+  plan-numbered : Numbered (planTests o)
+  unfolding planTests shapeTests numberTests
+  plan-numbered = omega arith
+
+  pub plan-holds : firstFailing (planTests o) ≡ 0 → PlanHolds o
+  unfolding planTests shapeTests numberTests plannedRule
+  plan-holds e =
+      let (order, (block, (count, (prefix, (rank, (size, (planned, end))))))) = none-fails (planTests o) plan-numbered e in
+      let rule = not-false _ (or-left (not (tasksRule (pos (tasks o)))) _ count) in
+      let range = within-facts 1 maxBlocks (o .planned) (not-false _ planned) in
+      record {
+        order = not-false _ order;
+        block = not-false _ block;
+        task-rule = rule;
+        some-tasks = tasks-facts (tasks o) rule .0;
+        few-tasks = tasks-facts (tasks o) rule .1;
+        listed = sym (eqb-true _ _ (not-false _ (or-right (not (tasksRule (pos (tasks o)))) _ count)));
+        prefix-short = ltb-false _ _ prefix;
+        ranked = not-false _ rank;
+        sized = not-false _ size;
+        some = range .0;
+        few = range .1;
+      }
+
+  -- the head says what the opening was given
+  module _ (p : PlanHolds o) where
+    pub ranks-kept : entry (openHead o .ranks) ≡ entry (o .ranks)
+    unfolding openHead headOf
+    ranks-kept = filled-list (tasks o) (o .ranks) refl (p .few-tasks)
+
+    pub sizes-kept : entry (openHead o .sizes) ≡ entry (o .sizes)
+    unfolding openHead headOf
+    sizes-kept = filled-list (tasks o) (o .sizes) (p .listed) (p .few-tasks)
+
+    ranks-sound : ranksRule (tasks o) (λ i. pos (entry (openHead o .ranks) i)) ≡ true
+    ranks-sound = subst (λ (r : ℕ → ℕ). ranksRule (tasks o) (λ i. pos (r i)) ≡ true) (sym ranks-kept) (p .ranked)
+
+    sizes-sound : sizesRule (tasks o) (λ i. pos (entry (openHead o .sizes) i)) ≡ true
+    sizes-sound = subst (λ (s : ℕ → ℕ). sizesRule (tasks o) (λ i. pos (s i)) ≡ true) (sym sizes-kept) (p .sized)
+
+    pub opened-sound : headSound (openHead o) ≡ true
+    unfolding headSound openHead headOf
+    opened-sound = rw (p .order, p .block, p .task-rule, ranks-sound, sizes-sound)
+
+  -- the numbers that the layout's functions ask for
+  pub plan-sound : PlanHolds o → Sound (o .blocksize) (tasks o) (o .sizes)
+  plan-sound p = record { block = p .block; tasks = p .few-tasks; listed = omega (arith, p .listed); sized = p .sized }
+
+  pub opening-holds : (imageLength cells : ℕ) → openRefusal o imageLength cells ≡ 0 → OpeningHolds o imageLength cells
+  unfolding openRefusal openHead tooShort
+  opening-holds imageLength cells e =
+      let (front, back) =
+      both-pass (planTests o)
+      (test 18 (tooShort (o .blocksize) (tasks o) (entry (o .sizes)) (o .planned) imageLength cells) ∷ [])
+      plan-numbered e in
+      let p = plan-holds front in
+      let (short, end) =
+      none-fails (test 18 (tooShort (o .blocksize) (tasks o) (entry (o .sizes)) (o .planned) imageLength cells) ∷ []) (omega arith) back in
+      let last : ℕ = meta2End (o .blocksize) (tasks o) (entry (o .sizes)) (o .planned) in
+      record {
+        plan = p;
+        image-long =
+            rw (endAt-made _ _ _ (o .blocksize) (tasks o) _ (entry (o .sizes)) (p .few-tasks) (o .planned))
+            (ltb-false _ _ (or-left (ltb imageLength last) _ short));
+        table-long = ltb-false _ _ (or-right (ltb imageLength last) _ short);
+      }
+
+  -- the image has room for all up to D
+  pub opening-data : {imageLength cells : ℕ} → OpeningHolds o imageLength cells → dataStart (o .blocksize) (tasks o) ≤ imageLength
+  unfolding openHead headOf endAt meta2End meta2Start
+  opening-data h = omega (arith, h .image-long)
+
+  -- what is answered, by the tests that led there
+  module _ (imageLength cells : ℕ) where
+    abbrev shape : List Test
+    shape = shapeTests (o .order) (o .blocksize) (tasks o) (length (o .sizes)) (length (o .prefix))
+
+    abbrev number : List Test
+    number = numberTests (o .ranks) (o .sizes) (o .planned)
+
+    shape-numbered : Numbered shape
+    unfolding shapeTests
+    shape-numbered = omega arith
+
+    pub refused-shape : 0 < firstFailing shape → openRefusal o imageLength cells ≡ firstFailing shape
+    unfolding openRefusal planTests
+    refused-shape some =
+        let e = first-fails shape number some in
+        first-fails (planTests o) _ (omega arith) ∙ e
+
+    module _ (first : firstFailing shape ≡ 0) where
+      pub refused-number : 0 < firstFailing number → openRefusal o imageLength cells ≡ firstFailing number
+      unfolding openRefusal planTests
+      refused-number some =
+          let e = first-passes shape number shape-numbered first in
+          first-fails (planTests o) _ (omega arith) ∙ e
+
+      pub plan-passes : firstFailing number ≡ 0 → firstFailing (planTests o) ≡ 0
+      unfolding planTests
+      plan-passes second = first-passes shape number shape-numbered first ∙ second
+
+      pub asked-short : firstFailing number ≡ 0
+          → openRefusal o imageLength cells
+          ≡ firstFailing (test 18 (tooShort (o .blocksize) (tasks o) (entry (o .sizes)) (o .planned) imageLength cells) ∷ [])
+      unfolding openRefusal
+      asked-short second = first-passes (planTests o) _ plan-numbered (plan-passes second)
+
+  -- what an accepted opening leaves
+  module _ (image : List ℕ) (table : List ℤ) (accepted : openRefusal o (length image) (length table) ≡ 0) where
+    pub opened-answer : openAnswer o image table ≡ record { refusal = 0; session = openSession o }
+    unfolding openAnswer opens
+    opened-answer = when-accepted _ _ _ accepted
+
+    pub opened-session : openAnswer o image table .session ≡ openSession o
+    opened-session = rw opened-answer
+
+    pub opened-image : openImage o image table ≡ splice image 0 (openingBytes (openHead o) (o .prefix))
+    unfolding openImage opens
+    opened-image = rw accepted
+
+    pub opened-table : openTable o image table ≡ splice table 0 (replicate (tasks o * o .planned) unused)
+    unfolding openTable opens
+    opened-table = rw accepted
+
+  -- what a refused one leaves
+  module _ (image : List ℕ) (table : List ℤ) (refused : 0 < openRefusal o (length image) (length table)) where
+    pub refused-answer : openAnswer o image table ≡ record { refusal = openRefusal o (length image) (length table); session = noSession }
+    unfolding openAnswer opens
+    refused-answer = when-refused _ _ _ refused
+
+    pub refused-image : openImage o image table ≡ image
+    unfolding openImage opens
+    refused-image = when-refused _ _ _ refused
+
+    pub refused-table : openTable o image table ≡ table
+    unfolding openTable opens
+    refused-table = when-refused _ _ _ refused
