@@ -1,7 +1,7 @@
 -- The three demands hold. Assumes nothing.
 use mathlib.Core.Path.{sym, _∙_}
 use lib.ListN.{length}
-use Rattle.room.proofs.Follows.{passes, runs}
+use Rattle.room.proofs.Steps.{passes, runs}
 use Rattle.room.proofs.Opened.{opened-follows}
 use Rattle.container.specs.Demands.{Refusals, Format, Demands}
 use Rattle.container.proofs.Refusing.{load-number, load-refuses, reads-refuse, open-number, open-refuses, write-refuses, close-refuses}

@@ -13,7 +13,8 @@ use Rattle.session.specs.Write.{Request, writeRefusal, writes, refusals}
 use Rattle.room.specs.Tally.{Plan, planOf, blank, askOf, asks, answers, fateIn, answerTo, toldAll, held}
 use Rattle.room.proofs.Share.{Good, good-blank, good-all, refused-full, at-most, alone}
 use Rattle.room.proofs.Places.{Layout, sane-blank, imageAfter, length-after, placed, others, own-blocks}
-use Rattle.room.proofs.Follows.{planIn, Follows, Runs, runs, step}
+use Rattle.room.proofs.Follows.{planIn, Follows, Runs}
+use Rattle.room.proofs.Steps.{runs, step}
 use Rattle.room.proofs.Opened.{plan-is, opened-follows, opened-layout}
 use Rattle.container.specs.Demands.{Answers, Placed, Kept, Room}
 use Rattle.container.proofs.Refusing.{open-number}

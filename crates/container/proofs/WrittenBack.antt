@@ -26,7 +26,8 @@ use Rattle.session.specs.Write.{Request, writes, refusals, accepted}
 use Rattle.session.specs.Close.{maxchunksOf, closeRefusal, closeImage}
 use Rattle.session.proofs.Openings.{opening-holds}
 use Rattle.room.specs.Tally.{blank}
-use Rattle.room.proofs.Follows.{layout-of, Follows, passes, runs}
+use Rattle.room.proofs.Follows.{layout-of, Follows}
+use Rattle.room.proofs.Steps.{passes, runs}
 use Rattle.room.proofs.Opened.{opened-follows}
 use Rattle.room.proofs.Streams.{bytesIn, streamIn, stream-all, front-kept}
 use Rattle.container.specs.Format.{Contents, HasMeta1, HasMeta2}

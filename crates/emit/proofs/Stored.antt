@@ -25,35 +25,17 @@ use Rattle.emit.proofs.Parts.{length-padded}
 
 -- ---- META1
 
--- the pieces of META1's front, and how long each is
-abbrev front : Bool → Head → List ℕ → List (List ℕ)
-front big h prefix =
-    Meta1.mark
-    ∷ signedDigits big 4 (pos Meta1.orderNumber)
-    ∷ signedDigits big 4 (h .version)
-    ∷ signedDigits big 4 (h .patch)
-    ∷ signedDigits big 4 (pos Meta1.formatVersion)
-    ∷ signedDigits big 4 (pos (h .blocksize))
-    ∷ signedDigits big 4 (pos (h .n))
-    ∷ signedDigits big 4 (pos Meta1.fileCount)
-    ∷ signedDigits big 4 (pos Meta1.fileNumber)
-    ∷ signedDigits big 8 (pos 0)
-    ∷ signedDigits big 8 (pos 0)
-    ∷ Meta1.padded prefix
-    ∷ joinBelow (h .n) (λ i. signedDigits big 8 (pos (entry (h .ranks) i)))
-    ∷ joinBelow (h .n) (λ i. signedDigits big 8 (pos (entry (h .sizes) i)))
-    ∷ []
-
+-- how long each field of META1's front is
 abbrev widths : ℕ → List ℕ
 widths n = 4 ∷ 4 ∷ 4 ∷ 4 ∷ 4 ∷ 4 ∷ 4 ∷ 4 ∷ 4 ∷ 8 ∷ 8 ∷ Meta1.prefixLength ∷ 8 * n ∷ 8 * n ∷ []
 
 -- in front of pieces of known lengths
-front-widths : (big : Bool) (h : Head) (prefix : List ℕ) {ps : List (List ℕ)} {ws : List ℕ} → length prefix ≤ Meta1.prefixLength
-    → Widths ps ws → Widths (front big h prefix ++ ps) (widths (h .n) ++ ws)
-front-widths big h prefix short rest =
-    let four = length-digits big 4 in
-    let eight = length-digits big 8 in
-    let numbers = length-numbers big 8 (h .n) in
+front-widths : (h : Head) (prefix : List ℕ) {ps : List (List ℕ)} {ws : List ℕ} → length prefix ≤ Meta1.prefixLength
+    → Widths ps ws → Widths (Meta1.frontFields h prefix ++ ps) (widths (h .n) ++ ws)
+front-widths h prefix short rest =
+    let four = length-digits (isBig h) 4 in
+    let eight = length-digits (isBig h) 8 in
+    let numbers = length-numbers (isBig h) 8 (h .n) in
     more refl
     (more (four _) (more (four _) (more (four _) (more (four _) (more (four _) (more (four _) (more (four _) (more (four _)
     (more (eight _) (more (eight _)
@@ -61,7 +43,7 @@ front-widths big h prefix short rest =
 
 pub length-front : (h : Head) (prefix : List ℕ) → length prefix ≤ Meta1.prefixLength → length (Meta1.meta1Front h prefix) ≡ Meta1.lastAt (h .n)
 unfolding Meta1.meta1Front
-length-front h prefix short = length-pieces (front-widths (isBig h) h prefix short none) ∙ omega arith
+length-front h prefix short = length-pieces (front-widths h prefix short none) ∙ omega arith
 
 pub length-last : (big : Bool) (maxchunks start : ℕ) → length (Meta1.lastFields big maxchunks start) ≡ 12
 unfolding Meta1.lastFields
@@ -88,9 +70,9 @@ opening-front h prefix short =
     rw append-assoc (take-at (Meta1.meta1Front h prefix) _ (Meta1.lastAt (h .n)) (length-front h prefix short))
 
 -- META1 and what follows it, in pieces
-abbrev pieces : Bool → Head → List ℕ → ℕ → ℕ → List ℕ → List (List ℕ)
-pieces big h prefix maxchunks start after =
-    front big h prefix ++ (signedDigits big 4 (pos maxchunks) ∷ signedDigits big 8 (pos start) ∷ after ∷ [])
+abbrev pieces : Head → List ℕ → ℕ → ℕ → List ℕ → List (List ℕ)
+pieces h prefix maxchunks start after =
+    Meta1.frontFields h prefix ++ (signedDigits (isBig h) 4 (pos maxchunks) ∷ signedDigits (isBig h) 8 (pos start) ∷ after ∷ [])
 
 regroup : (ps : List (List ℕ)) (m s r : List ℕ) → (flatten ps ++ (m ++ s)) ++ r ≡ flatten (ps ++ (m ∷ s ∷ r ∷ []))
 unfolding flatten
@@ -105,13 +87,13 @@ module _ (h : Head) (prefix : List ℕ) (maxchunks start : ℕ) (image : List �
   after = drop (meta1End (h .n)) image
 
   abbrev all : List (List ℕ)
-  all = pieces (isBig h) h prefix maxchunks start after
+  all = pieces h prefix maxchunks start after
 
   whole : image ≡ flatten all
   unfolding Meta1.meta1 Meta1.meta1Front Meta1.lastFields
   whole =
       sym (take-append-drop (meta1End (h .n)) image) ∙ ap (λ (l : List ℕ). l ++ after) stored
-      ∙ regroup (front (isBig h) h prefix) (signedDigits (isBig h) 4 (pos maxchunks)) (signedDigits (isBig h) 8 (pos start)) after
+      ∙ regroup (Meta1.frontFields h prefix) (signedDigits (isBig h) 4 (pos maxchunks)) (signedDigits (isBig h) 8 (pos start)) after
 
   -- where the first k pieces end
   abbrev end : ℕ → ℕ
@@ -120,7 +102,7 @@ module _ (h : Head) (prefix : List ℕ) (maxchunks start : ℕ) (image : List �
   from : (k at : ℕ) → end k ≡ at → drop at image ≡ flatten (drop k all)
   from k at e =
       let last = more (length-digits (isBig h) 4 _) (more (length-digits (isBig h) 8 _) (more refl none)) in
-      ap (drop at) whole ∙ ap (λ (b : ℕ). drop b (flatten all)) (sym e) ∙ drop-pieces (front-widths (isBig h) h prefix short last) k
+      ap (drop at) whole ∙ ap (λ (b : ℕ). drop b (flatten all)) (sym e) ∙ drop-pieces (front-widths h prefix short last) k
 
   -- a field that is piece k
   field : (k at w : ℕ) (z : ℤ) (others : List (List ℕ)) → end k ≡ at → drop k all ≡ signedDigits (isBig h) w z ∷ others

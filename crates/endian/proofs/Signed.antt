@@ -17,9 +17,8 @@ use borrow.Author.Tests.{lt-ltb, le-ltb, ltb-true, ltb-false, leb-true, le-leb, 
 use Rattle.endian.specs.Below.{joinBelow}
 use Rattle.endian.specs.Number.{number}
 use Rattle.endian.specs.Signed.{signed, bitsOf, signBit, signedAt, signedDigits, within, sameZ, natural}
-use Rattle.endian.specs.Splice.{splice}
 use Rattle.endian.proofs.Below.{and-left, and-right, length-join}
-use Rattle.endian.proofs.Number.{length-digits, number-digits, read-back}
+use Rattle.endian.proofs.Number.{length-digits, number-digits}
 use Rattle.endian.proofs.Pieces.{drop-join}
 
 -- the lower and the upper half of the numbers of h + 1 bits
@@ -44,13 +43,6 @@ signed-bitsOf h (pos n) l = signed-low h n l
 signed-bitsOf h (negsuc n) l =
     let e = pow-suc 2 h in
     signed-high h (2 ^ suc h - suc n) (rw e (comp-ge l)) ∙ ap negsuc (comp-comp (rw e (omega arith)))
-
-pub bitsOf-signed : (h n : ℕ) → n < 2 ^ suc h → bitsOf h (signed h n) ≡ n
-bitsOf-signed h n l = go (ltb n (2 ^ h)) refl
-  where
-    go : (b : Bool) → ltb n (2 ^ h) ≡ b → bitsOf h (signed h n) ≡ n
-    go true e = ap (bitsOf h) (signed-low h n (ltb-true _ _ e))
-    go false e = ap (bitsOf h) (signed-high h n (ltb-false _ _ e)) ∙ comp-comp l
 
 pub bitsOf-lt : (h : ℕ) (z : ℤ) → mag z < 2 ^ h → bitsOf h z < 2 ^ suc h
 bitsOf-lt h (pos n) l = let e = pow-suc 2 h in omega arith
@@ -95,13 +87,6 @@ pow-bytes (suc w) = rw (mul-suc, pow-add 2 (8 * w) 8, pow-bytes w, pow-suc 256 w
 
 pub pow-signBit : (w : ℕ) → 0 < w → 2 ^ suc (signBit w) ≡ 256 ^ w
 pow-signBit w h = ap (λ (n : ℕ). 2 ^ n) (omega arith) ∙ pow-bytes w
-
--- an integer that was stored is read back
-pub signed-read-back : (big : Bool) (w : ℕ) (z : ℤ) (xs : List ℕ) (at : ℕ) → 0 < w → at + w ≤ length xs → mag z < 2 ^ signBit w
-    → signedAt big w (splice xs at (signedDigits big w z)) at ≡ z
-signed-read-back big w z xs at some fits l =
-    ap (signed (signBit w)) (read-back big w (bitsOf (signBit w) z) xs at fits (rw (pow-signBit w some) at (bitsOf-lt (signBit w) z l)))
-    ∙ signed-bitsOf (signBit w) z l
 
 -- n integers, one after the other
 pub length-numbers : (big : Bool) (w n : ℕ) (f : ℕ → ℤ) → length (joinBelow n (λ i. signedDigits big w (f i))) ≡ w * n

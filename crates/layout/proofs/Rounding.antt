@@ -1,7 +1,7 @@
 -- Rounding up to a multiple of b: `roundUp b x` is the least multiple of b that is at least x. Assumes nothing.
 use mathlib.Core.Path.{_≡_, refl}
 use Prim.Native.Nat.{ℕ, _+_, _-_, _*_, _/_, _^_, _%_, _≤_, _<_}
-use native.Mathlib.Nat.{le-refl, le-antisymm, le-of-suc-le-suc, suc-mul, mul-le-mul-right}
+use native.Mathlib.Nat.{le-of-suc-le-suc, suc-mul, mul-le-mul-right}
 use native.Mathlib.Nat.{div-add-mod', div-lt-iff-lt-mul, mod-lt, mod-eq-of-lt}
 use native.Mathlib.Omega.{arith}
 use Rattle.layout.specs.Areas.{roundUp}
@@ -22,9 +22,6 @@ roundUp-ge b x h = omega (arith, div-add-mod' (x + (b - 1)) b, mod-lt (x + (b - 
 pub roundUp-least : (b x q : ℕ) → 0 < b → x ≤ q * b → roundUp b x ≤ q * b
 unfolding roundUp
 roundUp-least b x q h l = mul-le-mul-right b (le-of-suc-le-suc (div-lt-iff-lt-mul h .1 (rw suc-mul (omega arith))))
-
-pub roundUp-exact : (b q : ℕ) → 0 < b → roundUp b (q * b) ≡ q * b
-roundUp-exact b q h = le-antisymm (roundUp-least b (q * b) q h (le-refl (q * b))) (roundUp-ge b (q * b) h)
 
 -- by a power of two it is a shift down and up again, in w bits that hold the result
 pub roundUp-shifts : (w k b x : ℕ) → b ≡ 2 ^ k → roundUp b x < 2 ^ w → (x + (b - 1)) / 2 ^ k * 2 ^ k % 2 ^ w ≡ roundUp b x

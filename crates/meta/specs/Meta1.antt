@@ -87,11 +87,10 @@ padded prefix = prefix ++ replicate (prefixLength - length prefix) 0
 unfoldable pub lastFields : Bool → ℕ → ℕ → List ℕ
 lastFields big maxchunks start = signedDigits big 4 (pos maxchunks) ++ signedDigits big 8 (pos start)
 
--- all before them
-unfoldable pub meta1Front : Head → List ℕ → List ℕ
-meta1Front h prefix =
+-- all before them, field by field
+abbrev pub frontFields : Head → List ℕ → List (List ℕ)
+frontFields h prefix =
     let big = isBig h in
-    flatten (
     mark
     ∷ signedDigits big 4 (pos orderNumber)
     ∷ signedDigits big 4 (h .version)
@@ -106,7 +105,10 @@ meta1Front h prefix =
     ∷ padded prefix
     ∷ joinBelow (h .n) (λ i. signedDigits big 8 (pos (entry (h .ranks) i)))
     ∷ joinBelow (h .n) (λ i. signedDigits big 8 (pos (entry (h .sizes) i)))
-    ∷ [])
+    ∷ []
+
+unfoldable pub meta1Front : Head → List ℕ → List ℕ
+meta1Front h prefix = flatten (frontFields h prefix)
 
 unfoldable pub meta1 : Head → List ℕ → ℕ → ℕ → List ℕ
 meta1 h prefix maxchunks start = meta1Front h prefix ++ lastFields (isBig h) maxchunks start

@@ -4,10 +4,8 @@ use mathlib.Core.Bool.{Bool, true, false, cond, _&&_, false≢true}
 use Prim.Native.Nat.{ℕ, _+_, _≤_, _<_}
 use native.Mathlib.Omega.{arith}
 use lib.Dec.{leb}
-use lib.IntN.{pos}
 use borrow.Author.Tests.{ltb-true, ltb-false, leb-true, leb-false, eqb-true, eqb-false, not-false}
-use borrow.Author.Tests.{lt-ltb, le-ltb, le-leb, lt-leb, eq-eqb, ne-eqb}
-use Rattle.endian.specs.Signed.{within}
+use borrow.Author.Tests.{le-leb, lt-leb, eq-eqb, ne-eqb}
 use Rattle.endian.proofs.Below.{and-left, and-right}
 use Rattle.endian.proofs.Signed.{within-facts, within-holds}
 use Rattle.room.specs.Tally.{Plan, Ask, Tally, Book, fate, afterwards, told}
@@ -59,27 +57,6 @@ module _ (p : Plan) (a : Ask) (x : Tally) where
       either-way (View p a x) _
       (λ e. is-moves (range .0) (range .1) some fits (ltb-true _ _ e) more)
       (λ e. is-noRoom (range .0) (range .1) some fits (ltb-false _ _ e) more)
-
-  -- the cases shut one another out: the one whose facts hold is the tally's
-  pub fate-is : (f : Fate) → View p a x f → fate p a x ≡ f
-  unfolding fate
-  fate-is noTask (is-noTask out) = go (within 1 (p .n) (pos (a .task))) refl
-    where
-      go : (b : Bool) → within 1 (p .n) (pos (a .task)) ≡ b → fate p a x ≡ noTask
-      go true e = let range = within-facts 1 (p .n) (a .task) e in absurd (out (range .0) (range .1))
-      go false e = rw e
-  fate-is empty (is-empty l h e) = rw (within-holds 1 (p .n) (a .task) l h, eq-eqb (a .L) 0 e)
-  fate-is tooLong (is-tooLong l h some over) =
-      rw (within-holds 1 (p .n) (a .task) l h, ne-eqb (a .L) 0 (λ z. omega arith), lt-ltb (p .c (a .task)) (a .L) over)
-  fate-is stays (is-stays l h some k fits) =
-      rw (within-holds 1 (p .n) (a .task) l h, ne-eqb (a .L) 0 (λ z. omega arith), le-ltb (p .c (a .task)) (a .L) (omega arith))
-      (rw (le-leb 1 (x .u) k, le-leb (x .w + a .L) (p .c (a .task)) fits))
-  fate-is moves (is-moves l h some fits k more) =
-      rw (within-holds 1 (p .n) (a .task) l h, ne-eqb (a .L) 0 (λ z. omega arith), le-ltb (p .c (a .task)) (a .L) fits)
-      (rw (over-stay (x .u) (x .w + a .L) (p .c (a .task)) more, lt-ltb (x .u) (p .K) k))
-  fate-is noRoom (is-noRoom l h some fits k more) =
-      rw (within-holds 1 (p .n) (a .task) l h, ne-eqb (a .L) 0 (λ z. omega arith), le-ltb (p .c (a .task)) (a .L) fits)
-      (rw (over-stay (x .u) (x .w + a .L) (p .c (a .task)) more, le-ltb (x .u) (p .K) k))
 
 -- ---- one write: what it leaves of its own task's tally, and of any other's
 

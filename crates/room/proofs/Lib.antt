@@ -2,5 +2,6 @@ pub mod Fates
 pub mod Share
 pub mod Places
 pub mod Follows
+pub mod Steps
 pub mod Opened
 pub mod Streams

@@ -284,10 +284,6 @@ module _ (B M : ℕ) (p : Plan) (lo : Layout B M p) where
       rw (← e) (z .k, z .i + j, y ∙ spot-at z j, spot-in z j l)
   lands-in s (later {book = b} {q = q} h) = lands-in (sane-told p b (askOf q) s) h
 
-  pub lands-spot : {t x v : ℕ} {b : Book} {qs : List Request} → Sane p b → Lands p t x v b qs
-      → (k : ℕ) × (i : ℕ) × (x ≡ p .start t k + i) × (1 ≤ t) × (t ≤ p .n) × (1 ≤ k) × (k ≤ p .K) × (i < p .c t)
-  lands-spot s h = let a = lands-in s h in let f = a .3 in (a .0, a .1, a .2, f .low, f .top, f .one, f .all, f .fits)
-
   pub own-blocks : {s t x y v w : ℕ} {b : Book} {qs : List Request} → Sane p b → Lands p s x v b qs → Lands p t y w b qs
       → x / B ≡ y / B → s ≡ t
   own-blocks s f g e =

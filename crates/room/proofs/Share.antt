@@ -38,7 +38,6 @@ pub record Good (K c : ℕ) (x : Tally) (h : ℕ) : Type 0 where
   pub low : x .u * suc c + x .w ≤ 2 * h + suc c
   pub high : 0 < x .u → h + c ≤ x .u * c + x .w
   pub fresh : x .u ≡ 0 → h ≡ 0
-  pub bare : x .u ≡ 0 → x .w ≡ 0
   pub last : x .w ≤ c
   pub most : x .u ≤ K
 
@@ -48,7 +47,6 @@ good-blank K c =
       low = omega arith;
       high = λ k. absurd (omega arith);
       fresh = λ e. refl;
-      bare = λ e. refl;
       last = omega arith;
       most = omega arith;
     }
@@ -78,7 +76,6 @@ good-step p a x h g = go (fate p a x) (view p a x)
           low = omega arith;
           high = λ _. omega (arith, g .high k);
           fresh = λ e. absurd (omega arith);
-          bare = λ e. absurd (omega arith);
           last = l;
           most = g .most;
         }
@@ -87,7 +84,6 @@ good-step p a x h g = go (fate p a x) (view p a x)
           low = moves-low (x .u) (x .w) (p .c (a .task)) h (a .L) (g .low) m;
           high = λ _. moves-high (x .u) (x .w) (p .c (a .task)) h (a .L) (g .high) (g .fresh) (g .last);
           fresh = λ e. absurd (omega arith);
-          bare = λ e. absurd (omega arith);
           last = l;
           most = omega arith;
         }

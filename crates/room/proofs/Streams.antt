@@ -29,7 +29,8 @@ use Rattle.room.specs.Tally.{Plan, Tally, Book, fate, fateIn, answerTo, 
 use Rattle.room.specs.Tally.{Fate, noTask, empty, tooLong, stays, moves, noRoom}
 use Rattle.room.proofs.Fates.{View, is-noTask, is-empty, is-tooLong, is-stays, is-moves, is-noRoom, view, told-same, told-other}
 use Rattle.room.proofs.Places.{Layout, InChunk, Taken, laid-ways, laidIn, fits-of, kept, length-after}
-use Rattle.room.proofs.Follows.{planIn, layout-of, Follows, used-fits, step, cells-kept}
+use Rattle.room.proofs.Follows.{planIn, layout-of, Follows, used-fits}
+use Rattle.room.proofs.Steps.{step, cells-kept}
 
 -- the bytes of chunk k + 1 of task i + 1, and the task's whole stream, as a state says
 unfoldable pub bytesIn : State → ℕ → ℕ → List ℕ

@@ -1,0 +1,372 @@
+-- A session that follows a book of the tally passes its tests, and each write and each list of writes does to it what the tally does.
+-- Assumes nothing.
+use mathlib.Core.Path.{_≡_, refl, sym, ap, ap₂, _∙_, subst, fun-ext}
+use mathlib.Core.Bool.{Bool, true, false, _&&_}
+use mathlib.Core.List.{List, [], _∷_}
+use Prim.Native.Nat.{ℕ, _+_, _*_, _-_, _/_, _%_, _≤_, _<_}
+use native.Mathlib.Nat.{add-zero}
+use native.Mathlib.Omega.{arith}
+use lib.Arith.{digits-div, digits-mod}
+use lib.Dec.{ltb, leb, eqb}
+use lib.IntN.{ℤ, pos}
+use lib.ListN.{length, set, length-set}
+use lib.Seq.{getD-set-same, getD-set-other}
+use borrow.Author.Tests.{eqb-true, eqb-false, lt-ltb, le-ltb, le-leb, lt-leb, ltb-true}
+use Rattle.endian.specs.Signed.{natural}
+use Rattle.endian.proofs.Signed.{within-facts, within-holds}
+use Rattle.meta.specs.declared.head.Head.{Head}
+use Rattle.meta.specs.Refusals.{firstFailing}
+use Rattle.meta.specs.Meta2.{valueIndex}
+use Rattle.meta.specs.Heads.{entry, cell, holds, cellsAgree, isTask}
+use Rattle.meta.proofs.Rules.{valueIndex-lt, values-hold}
+use Rattle.session.specs.Records.{State, sessionTests}
+use Rattle.session.specs.Write.{Request, Spot, begun, inLast, room, spot, target, writeRefusal, stored, afterWrite}
+use Rattle.session.proofs.Sessions.{state-passes}
+use Rattle.session.proofs.Answers.{answer-no-task, answer-empty, answer-long, answer-chunk}
+use Rattle.session.proofs.Outcomes.{refused-keeps, empty-keeps, accepted-stores}
+use Rattle.room.specs.Tally.{Plan, Tally, Book, fateIn, answerTo, afterwards, told, askOf}
+use Rattle.room.specs.Tally.{Fate, noTask, empty, tooLong, stays, moves, noRoom}
+use Rattle.room.proofs.Fates.{View, is-noTask, is-empty, is-tooLong, is-stays, is-moves, is-noRoom, view, told-same, told-other}
+use Rattle.room.proofs.Places.{sane-told, laidIn, imageAfter, length-after}
+use Rattle.room.proofs.Follows.{planIn, layout-of, CellIs, Follows, used-fits, Step, Runs, CellsKept}
+
+-- a state that follows a book by its own head and its own K, and what the tally is fed of these
+abbrev planAt : State → Plan
+planAt st = planIn (st .session .head) (st .session .planned)
+
+abbrev Own : Book → State → Type 0
+Own b st = Follows (st .session .head) (st .session .planned) b st
+
+module _ {b : Book} {st : State} (f : Own b st) where
+  own-passes : firstFailing (sessionTests st) ≡ 0
+  unfolding cellsAgree
+  own-passes =
+      state-passes st (record {
+        unmarked = f .unmarked;
+        sound = record {
+          head = f .sound;
+          some = f .some;
+          few = f .few;
+          counts = λ i l. omega (arith, f .counts-are i l, f .sane (i + 1) .1 .most);
+        };
+        image-long = f .image-long;
+        table-long = f .table-long;
+        agree =
+            values-hold _ _ _ _ _
+            (λ i k l u. used-fits f i k l (omega (arith, f .counts-are i l)))
+            (λ i k l u m. f .cells-are i k l m .none (omega (arith, f .counts-are i l)));
+      })
+
+  -- ---- one write
+
+  module _ (q : Request) where
+    last-room : b (q .task) .w ≤ room st q
+    unfolding room
+    last-room = f .sane (q .task) .1 .last
+
+    -- of a task that there is, the count and the last cell are u and w
+    module _ (low : 1 ≤ q .task) (top : q .task ≤ st .session .head .n) where
+      back : q .task - 1 + 1 ≡ q .task
+      back = omega arith
+
+      begun-is : begun st q ≡ b (q .task) .u
+      unfolding begun
+      begun-is = rw back at (f .counts-are (q .task - 1) (omega arith))
+
+      last-is : 0 < b (q .task) .u → inLast st q ≡ b (q .task) .w
+      unfolding inLast
+      last-is k =
+          let e = begun-is in
+          let c = f .cells-are (q .task - 1) (begun st q - 1) (omega arith) (omega (arith, f .sane (q .task) .1 .most)) in
+          ap natural ((rw back at c) .last (omega arith))
+
+      spot-stays : 0 < b (q .task) .u → b (q .task) .w + length (q .bytes) ≤ room st q
+          → spot st q ≡ record { chunk = b (q .task) .u; from = b (q .task) .w }
+      unfolding spot
+      spot-stays k fits =
+          rw (begun-is, last-is k, lt-ltb 0 (b (q .task) .u) k, le-leb (length (q .bytes)) (room st q - b (q .task) .w) (omega arith))
+
+      over : (0 < b (q .task) .u → room st q < b (q .task) .w + length (q .bytes))
+          → (ltb 0 (b (q .task) .u) && leb (length (q .bytes)) (room st q - inLast st q)) ≡ false
+      over more = go (ltb 0 (b (q .task) .u)) refl
+        where
+          go : (v : Bool) → ltb 0 (b (q .task) .u) ≡ v → (v && leb (length (q .bytes)) (room st q - inLast st q)) ≡ false
+          go true e =
+              let k = ltb-true 0 (b (q .task) .u) e in
+              lt-leb (length (q .bytes)) (room st q - inLast st q) (omega (arith, last-is k, more k, last-room))
+          go false e = refl
+
+      spot-moves : (0 < b (q .task) .u → room st q < b (q .task) .w + length (q .bytes))
+          → spot st q ≡ record { chunk = b (q .task) .u + 1; from = 0 }
+      unfolding spot
+      spot-moves more = rw (begun-is, over more)
+
+      is-task : isTask (st .session .head .n) (q .task) ≡ true
+      is-task = within-holds 1 (st .session .head .n) (q .task) low top
+
+      -- a request that has bytes and is not too long
+      module _ (some : 0 < length (q .bytes)) (short : length (q .bytes) ≤ room st q) where
+        no-chunk : st .session .planned < spot st q .chunk → writeRefusal st q ≡ 16
+        no-chunk l = answer-chunk st q own-passes is-task some short ∙ rw (lt-ltb (st .session .planned) (spot st q .chunk) l)
+
+        chunk-there : spot st q .chunk ≤ st .session .planned → writeRefusal st q ≡ 0
+        chunk-there l = answer-chunk st q own-passes is-task some short ∙ rw (le-ltb (st .session .planned) (spot st q .chunk) l)
+
+    no-task : (1 ≤ q .task → q .task ≤ st .session .head .n → ⊥) → writeRefusal st q ≡ 14
+    no-task out = go (isTask (st .session .head .n) (q .task)) refl
+      where
+        go : (v : Bool) → isTask (st .session .head .n) (q .task) ≡ v → writeRefusal st q ≡ 14
+        go true e = let range = within-facts 1 (st .session .head .n) (q .task) e in absurd (out (range .0) (range .1))
+        go false e = answer-no-task st q own-passes e
+
+    -- what is shown of the write
+    abbrev Did : Type 0
+    Did =
+        Step (st .session .head) (st .session .planned) b st q × CellsKept (st .session .head) (st .session .planned) b st q
+
+    -- a write that changes nothing
+    quiet : told (planAt st) b (askOf q) (q .task) ≡ b (q .task) → told (planAt st) b (askOf q) ≡ b
+    quiet e = fun-ext (λ t. go t (eqb (q .task) t) refl)
+      where
+        go : (t : ℕ) (v : Bool) → eqb (q .task) t ≡ v → told (planAt st) b (askOf q) t ≡ b t
+        go t true h = subst (λ (d : ℕ). told (planAt st) b (askOf q) d ≡ b d) (eqb-true (q .task) t h) e
+        go t false h = told-other (planAt st) b (askOf q) t (eqb-false _ _ h)
+
+    still : writeRefusal st q ≡ answerTo (fateIn (planAt st) b (askOf q)) → laidIn (planAt st) b (st .image) q ≡ st .image
+        → told (planAt st) b (askOf q) (q .task) ≡ b (q .task) → afterWrite st q ≡ st → Did
+    still number laid same e = (
+      record {
+        number-is = number;
+        image-is = ap (λ (x : State). x .image) e ∙ sym laid;
+        follows = rw (quiet same) (subst (λ (x : State). Follows (st .session .head) (st .session .planned) b x) (sym e) f);
+        table-as-long = ap (λ (x : State). length (x .table)) e;
+        other-cells = λ j l. ap (λ (x : State). cell (x .table) j) e;
+      },
+      λ i k l d. ap (λ (x : State). cell (x .table) (valueIndex (st .session .head .n) k i)) e,
+    )
+
+    -- a write that is stored: of its task the tally says x afterwards
+    module _ (x : Tally) (low : 1 ≤ q .task) (top : q .task ≤ st .session .head .n) (now : told (planAt st) b (askOf q) (q .task) ≡ x)
+        (some : 0 < x .u) (most : x .u ≤ st .session .planned) (chunk-is : spot st q .chunk ≡ x .u)
+        (sum-is : spot st q .from + length (q .bytes) ≡ x .w)
+        (grow : (k : ℕ) (z : ℤ) → (k + 1 ≡ x .u → ⊥) → CellIs (room st q) (b (q .task)) k z → CellIs (room st q) x k z) where
+      -- the cell that is stored
+      cellAt : ℕ
+      cellAt = valueIndex (st .session .head .n) (x .u - 1) (q .task - 1)
+
+      table-is : stored st q .table ≡ set (st .table) cellAt (pos (x .w))
+      unfolding stored cellAt
+      table-is = rw (chunk-is, sum-is)
+
+      counts-is : stored st q .session .counts ≡ set (st .session .counts) (q .task - 1) (x .u)
+      unfolding stored
+      counts-is = rw chunk-is
+
+      cellAt-lt : cellAt < st .session .head .n * st .session .planned
+      unfolding cellAt
+      cellAt-lt = valueIndex-lt (st .session .head .n) (st .session .planned) (x .u - 1) (q .task - 1) (omega arith) (omega arith)
+
+      other-index : (j : ℕ) → (j ≡ cellAt → ⊥) → cell (stored st q .table) j ≡ cell (st .table) j
+      other-index j d = rw table-is (getD-set-other (st .table) cellAt j (pos (x .w)) (pos 0) d)
+
+      other-cell : (i k : ℕ) → i < st .session .head .n → ((k ≡ x .u - 1) × (i ≡ q .task - 1) → ⊥)
+          → cell (stored st q .table) (valueIndex (st .session .head .n) k i) ≡ cell (st .table) (valueIndex (st .session .head .n) k i)
+      unfolding cellAt
+      other-cell i k h d =
+          let n : ℕ = st .session .head .n in
+          let m : q .task - 1 < n = omega arith in
+          other-index (valueIndex n k i)
+          (λ e.
+          d (
+            sym (digits-div k h) ∙ ap (λ (j : ℕ). j / n) e ∙ digits-div (x .u - 1) m,
+            sym (digits-mod k h) ∙ ap (λ (j : ℕ). j % n) e ∙ digits-mod (x .u - 1) m,
+          ))
+
+      same-index : (i k : ℕ) → i ≡ q .task - 1 → k ≡ x .u - 1 → valueIndex (st .session .head .n) k i ≡ cellAt
+      unfolding cellAt
+      same-index i k e d = rw (e, d)
+
+      last-chunk : (i k : ℕ) → i ≡ q .task - 1 → k ≡ x .u - 1 → k + 1 ≡ told (planAt st) b (askOf q) (i + 1) .u
+      last-chunk i k e d =
+          let task : i + 1 ≡ q .task = omega arith in
+          rw (task, now) (omega arith)
+
+      other-tally : (i : ℕ) → (i ≡ q .task - 1 → ⊥) → told (planAt st) b (askOf q) (i + 1) ≡ b (i + 1)
+      other-tally i d = told-other (planAt st) b (askOf q) (i + 1) (λ e. d (omega arith))
+
+      new-cells : (i k : ℕ) → i < st .session .head .n → k < st .session .planned
+          → CellIs (holds (st .session .head) i) (told (planAt st) b (askOf q) (i + 1)) k
+          (cell (stored st q .table) (valueIndex (st .session .head .n) k i))
+      unfolding room
+      new-cells i k h l = go (eqb i (q .task - 1)) refl (eqb (k + 1) (x .u)) refl
+        where
+          go : (v : Bool) → eqb i (q .task - 1) ≡ v → (w : Bool) → eqb (k + 1) (x .u) ≡ w
+              → CellIs (holds (st .session .head) i) (told (planAt st) b (askOf q) (i + 1)) k
+              (cell (stored st q .table) (valueIndex (st .session .head .n) k i))
+          go false e w d = rw (other-tally i (eqb-false _ _ e), other-cell i k h (λ y. eqb-false _ _ e (y .1))) (f .cells-are i k h l)
+          go true e false d =
+              let at : i ≡ q .task - 1 = eqb-true _ _ e in
+              let task : q .task - 1 + 1 ≡ q .task = omega arith in
+              let past : k + 1 ≡ x .u → ⊥ = eqb-false _ _ d in
+              rw (other-cell i k h (λ y. past (omega (arith, y .0))), at, task, now)
+              (grow k _ past (rw (at, task) at (f .cells-are i k h l)))
+          go true e true d =
+              let at : i ≡ q .task - 1 = eqb-true _ _ e in
+              let task : q .task - 1 + 1 ≡ q .task = omega arith in
+              let last : k + 1 ≡ x .u = eqb-true _ _ d in
+              let here : valueIndex (st .session .head .n) k i ≡ cellAt = same-index i k at (omega arith) in
+              let there : cellAt < length (st .table) = omega (arith, cellAt-lt, f .table-long) in
+              rw (here, table-is, getD-set-same (st .table) cellAt (pos (x .w)) (pos 0) there, at, task, now)
+              (record { used = λ y. absurd (omega arith); last = λ _. refl; none = λ y. absurd (omega arith) })
+
+      new-counts : (i : ℕ) → i < st .session .head .n → entry (stored st q .session .counts) i ≡ told (planAt st) b (askOf q) (i + 1) .u
+      new-counts i h = go (eqb i (q .task - 1)) refl
+        where
+          go : (v : Bool) → eqb i (q .task - 1) ≡ v → entry (stored st q .session .counts) i ≡ told (planAt st) b (askOf q) (i + 1) .u
+          go true e =
+              let at : i ≡ q .task - 1 = eqb-true _ _ e in
+              let task : q .task - 1 + 1 ≡ q .task = omega arith in
+              rw (counts-is, at, task, now)
+              (getD-set-same (st .session .counts) (q .task - 1) (x .u) 0 (omega (arith, f .entries)))
+          go false e =
+              rw (counts-is, other-tally i (eqb-false _ _ e))
+              (getD-set-other (st .session .counts) (q .task - 1) i (x .u) 0 (eqb-false _ _ e) ∙ f .counts-are i h)
+
+      head-same : stored st q .session .head ≡ st .session .head
+      unfolding stored
+      head-same = refl
+
+      planned-same : stored st q .session .planned ≡ st .session .planned
+      unfolding stored
+      planned-same = refl
+
+      closed-same : stored st q .session .closed ≡ st .session .closed
+      unfolding stored
+      closed-same = refl
+
+      stored-follows : length (stored st q .image) ≡ length (st .image)
+          → Follows (st .session .head) (st .session .planned) (told (planAt st) b (askOf q)) (stored st q)
+      stored-follows long =
+          record {
+            head-is = head-same;
+            planned-is = planned-same;
+            unmarked = closed-same ∙ f .unmarked;
+            sound = f .sound;
+            some = f .some;
+            few = f .few;
+            entries = rw (counts-is, length-set) (f .entries);
+            image-long = rw long (f .image-long);
+            table-long = rw (table-is, length-set) (f .table-long);
+            counts-are = new-counts;
+            cells-are = new-cells;
+            sane = sane-told (planAt st) b (askOf q) (f .sane);
+          }
+
+      store : writeRefusal st q ≡ 0 → answerTo (fateIn (planAt st) b (askOf q)) ≡ 0 → 0 < length (q .bytes)
+          → stored st q .image ≡ laidIn (planAt st) b (st .image) q → Did
+      store number zero bytes image =
+          let e = accepted-stores st q number bytes in
+          let lo = layout-of (st .session .head) (st .session .planned) (f .sound) in
+          let long : length (stored st q .image) ≡ length (st .image) =
+          ap length image ∙ length-after _ _ _ lo (q ∷ []) b (st .image) (f .image-long) (f .sane) in (
+            record {
+              number-is = number ∙ sym zero;
+              image-is = ap (λ (x : State). x .image) e ∙ image;
+              follows =
+                  subst (λ (x : State). Follows (st .session .head) (st .session .planned) (told (planAt st) b (askOf q)) x) (sym e)
+                  (stored-follows long);
+              table-as-long = ap (λ (x : State). length (x .table)) e ∙ rw table-is (length-set (st .table) cellAt (pos (x .w)));
+              other-cells = λ j l. ap (λ (x : State). cell (x .table) j) e ∙ other-index j (λ z. omega (arith, cellAt-lt));
+            },
+            λ i k l d.
+                ap (λ (x : State). cell (x .table) (valueIndex (st .session .head .n) k i)) e
+                ∙ other-cell i k l (λ y. d (omega (arith, y .1)) (last-chunk i k (y .1) (y .0))),
+          )
+
+    -- what was the last chunk's cell is a used chunk's cell after the next chunk has begun
+    used-before : (k : ℕ) (z : ℤ) → CellIs (room st q) (b (q .task)) k z
+        → k + 1 < b (q .task) .u + 1 → (v : Bool) → eqb (k + 1) (b (q .task) .u) ≡ v → (v : ℕ) × (z ≡ pos v) × (v ≤ room st q)
+    used-before k z c l true e = (b (q .task) .w, c .last (eqb-true _ _ e), last-room)
+    used-before k z c l false e = c .used (omega (arith, eqb-false))
+
+    own-step : Did
+    unfolding room stored target
+    own-step = go (fateIn (planAt st) b (askOf q)) refl (view (planAt st) (askOf q) (b (q .task)))
+      where
+        now : (z : Fate) → fateIn (planAt st) b (askOf q) ≡ z
+            → told (planAt st) b (askOf q) (q .task) ≡ afterwards z (length (q .bytes)) (b (q .task))
+        now z e =
+            told-same (planAt st) b (askOf q) (q .task) refl ∙ ap (λ (z : Fate). afterwards z (length (q .bytes)) (b (q .task))) e
+
+        go : (z : Fate) → fateIn (planAt st) b (askOf q) ≡ z → View (planAt st) (askOf q) (b (q .task)) z → Did
+        go noTask e (is-noTask out) =
+            let number = no-task out in
+            still (number ∙ sym (ap answerTo e)) (rw e) (now noTask e) (refused-keeps st q (omega arith))
+        go empty e (is-empty l h none) = still (answer-empty st q own-passes (is-task l h) none ∙ sym (ap answerTo e)) (rw e) (now empty e) (empty-keeps st q none)
+        go tooLong e (is-tooLong l h some long) =
+            let number = answer-long st q own-passes (is-task l h) long in
+            still (number ∙ sym (ap answerTo e)) (rw e) (now tooLong e) (refused-keeps st q (omega arith))
+        go stays e (is-stays l h some k fits) =
+            let at = spot-stays l h k fits in
+            let c : spot st q .chunk ≡ b (q .task) .u = ap (λ (x : Spot). x .chunk) at in
+            let d : spot st q .from ≡ b (q .task) .w = ap (λ (x : Spot). x .from) at in
+            let most : b (q .task) .u ≤ st .session .planned = f .sane (q .task) .1 .most in
+            store (record { u = b (q .task) .u; w = b (q .task) .w + length (q .bytes) }) l h (now stays e) k most c (omega arith)
+            (λ j z n x. record { used = x .used; last = λ y. absurd (n y); none = x .none })
+            (chunk-there l h some (omega arith) (omega arith)) (ap answerTo e) some (rw (e, c, d))
+        go moves e (is-moves l h some fits k more) =
+            let at = spot-moves l h more in
+            let c : spot st q .chunk ≡ b (q .task) .u + 1 = ap (λ (x : Spot). x .chunk) at in
+            let d : spot st q .from ≡ 0 = ap (λ (x : Spot). x .from) at in
+            store (record { u = b (q .task) .u + 1; w = length (q .bytes) }) l h (now moves e) (omega arith) (omega arith) c (omega arith)
+            (λ j z n x.
+            record {
+              used = λ y. used-before j z x y (eqb (j + 1) (b (q .task) .u)) refl;
+              last = λ y. absurd (n y);
+              none = λ y. x .none (omega arith);
+            })
+            (chunk-there l h some fits (omega arith)) (ap answerTo e) some (rw (e, c, d, add-zero))
+        go noRoom e (is-noRoom l h some fits k more) =
+            let c : spot st q .chunk ≡ b (q .task) .u + 1 = ap (λ (x : Spot). x .chunk) (spot-moves l h more) in
+            let number = no-chunk l h some fits (omega arith) in
+            still (number ∙ sym (ap answerTo e)) (rw e) (now noRoom e) (refused-keeps st q (omega arith))
+
+-- ---- for any head and K that are the state's
+
+-- what is said of its own head and K is said of those given
+own-as : (st : State) {h : Head} {K : ℕ} (P : Head → ℕ → Type 0) → st .session .head ≡ h → st .session .planned ≡ K
+    → P (st .session .head) (st .session .planned) → P h K
+own-as st {K = K} P e d x = subst (λ (h : Head). P h K) e (subst (λ (k : ℕ). P (st .session .head) k) d x)
+
+as-own : (st : State) {h : Head} {K : ℕ} (P : Head → ℕ → Type 0) → st .session .head ≡ h → st .session .planned ≡ K
+    → P h K → P (st .session .head) (st .session .planned)
+as-own st {K = K} P e d x =
+    subst (λ (k : ℕ). P (st .session .head) k) (sym d) (subst (λ (h : Head). P h K) (sym e) x)
+
+module _ {h : Head} {K : ℕ} where
+  module _ {b : Book} {st : State} (f : Follows h K b st) where
+    own : Own b st
+    own = as-own st (λ h K. Follows h K b st) (f .head-is) (f .planned-is) f
+
+    -- what keeps a session alive
+    pub passes : firstFailing (sessionTests st) ≡ 0
+    passes = own-passes own
+
+    pub step : (q : Request) → Step h K b st q
+    step q = own-as st (λ h K. Step h K b st q) (f .head-is) (f .planned-is) (own-step own q .0)
+
+    pub cells-kept : (q : Request) → CellsKept h K b st q
+    cells-kept q = own-as st (λ h K. CellsKept h K b st q) (f .head-is) (f .planned-is) (own-step own q .1)
+
+  pub runs : {b : Book} {st : State} → Follows h K b st → (qs : List Request) → Runs h K b st qs
+  runs f [] = record { numbers-are = refl; image-is = refl; follows = f; table-as-long = refl; other-cells = λ j l. refl }
+  runs {b} f (q ∷ qs) =
+      let s = step f q in
+      let r = runs (s .follows) qs in
+      record {
+        numbers-are = ap₂ _∷_ (s .number-is) (r .numbers-are);
+        image-is = r .image-is ∙ ap (λ (m : List ℕ). imageAfter (planIn h K) (told (planIn h K) b (askOf q)) m qs) (s .image-is);
+        follows = r .follows;
+        table-as-long = r .table-as-long ∙ s .table-as-long;
+        other-cells = λ j l. r .other-cells j l ∙ s .other-cells j l;
+      }
