@@ -10,11 +10,11 @@ use Rattle.meta.specs.Heads.{endAt, headOf}
 use Rattle.session.specs.Records.{State}
 use Rattle.session.specs.Open.{Opening, tasks, openRefusal, openHead, opened}
 use Rattle.session.specs.Write.{Request, writeRefusal, writes, refusals}
-use Rattle.room.specs.Tally.{Plan, planOf, blank, askOf, asks, answers, fateIn, answerTo, toldAll, held}
+use Rattle.room.specs.Tally.{Plan, planOf, blank, askOf, asks, answers, fateIn, answerTo, told, toldAll, held}
 use Rattle.room.proofs.Share.{Good, good-blank, good-all, refused-full, at-most, alone}
 use Rattle.room.proofs.Places.{Layout, sane-blank, imageAfter, length-after, placed, others, own-blocks}
 use Rattle.room.proofs.Follows.{planIn, Follows, Runs}
-use Rattle.room.proofs.Steps.{runs, step}
+use Rattle.room.proofs.Steps.{cells-kept, runs, step}
 use Rattle.room.proofs.Opened.{plan-is, opened-follows, opened-layout}
 use Rattle.container.specs.Demands.{Answers, Placed, Kept, Room}
 use Rattle.container.proofs.Refusing.{open-number}
@@ -88,6 +88,8 @@ module _ (o : Opening) (image : List ℕ) (table : List ℤ) (zero : openRefusal
       counts = λ i l. last .counts-are i l;
       last-cells = λ i k l e. last .cells-are i k l (omega (arith, e, good (i + 1) .most)) .last e;
       later-cells = λ i k l e m. last .cells-are i k l m .none e;
+      next-cells = λ q i k l d.
+          cells-kept last q i k l (λ e u. d e (u ∙ ap (λ (p : Plan). told p (toldAll (planOf o) blank (asks qs)) (askOf q) (i + 1) .u) same));
       other-cells = run .other-cells;
       as-many = run .table-as-long;
     }

@@ -24,7 +24,7 @@ use Rattle.session.specs.Records.{State, sessionTests, noSession, marked}
 use Rattle.session.specs.Open.{Opening, tasks, openAnswer, openImage, openTable, opened}
 use Rattle.session.specs.Write.{Request, writeRefusal, writeAnswer, afterWrite, writes, refusals, accepted}
 use Rattle.session.specs.Close.{maxchunksOf, closeAnswer, closeImage}
-use Rattle.room.specs.Tally.{planOf, blank, asks, answers, toldAll, held, own, ownAnswers, Lands}
+use Rattle.room.specs.Tally.{planOf, blank, askOf, asks, answers, told, toldAll, held, own, ownAnswers, Lands}
 use Rattle.container.specs.declared.record.Loaded.{Loaded}
 use Rattle.container.specs.Records.{noLoaded}
 use Rattle.container.specs.Format.{Contents, IsContainer}
@@ -293,7 +293,8 @@ pub record Placed (o : Opening) (start : State) (qs : List Request) : Type 0 whe
   pub own-blocks : {task task′ at at′ value value′ : ℕ} → Lands (planOf o) task at value blank qs → Lands (planOf o) task′ at′ value′ blank qs
       → at / o .blocksize ≡ at′ / o .blocksize → task ≡ task′
 
--- the record and the table: a task's count is the tally's u and its last cell the tally's w, later cells are -1; nothing else of them moved
+-- the record and the table: a task's count is the tally's u and its last cell the tally's w, later cells are -1; head, K, mark and the cells
+-- past n·K are as the opening left them; and the next write moves no cell but the one that is then its task's last
 pub record Kept (o : Opening) (start : State) (qs : List Request) : Type 0 where
   pub head : writes start qs .session .head ≡ start .session .head
   pub planned : writes start qs .session .planned ≡ start .session .planned
@@ -303,6 +304,9 @@ pub record Kept (o : Opening) (start : State) (qs : List Request) : Type 0 where
       → cell (writes start qs .table) (valueIndex (tasks o) k i) ≡ pos (toldAll (planOf o) blank (asks qs) (i + 1) .w)
   pub later-cells : (i k : ℕ) → i < tasks o → toldAll (planOf o) blank (asks qs) (i + 1) .u ≤ k → k < o .planned
       → cell (writes start qs .table) (valueIndex (tasks o) k i) ≡ unused
+  pub next-cells : (q : Request) → (i k : ℕ) → i < tasks o
+      → (q .task ≡ i + 1 → k + 1 ≡ told (planOf o) (toldAll (planOf o) blank (asks qs)) (askOf q) (i + 1) .u → ⊥)
+      → cell (afterWrite (writes start qs) q .table) (valueIndex (tasks o) k i) ≡ cell (writes start qs .table) (valueIndex (tasks o) k i)
   pub other-cells : (j : ℕ) → tasks o * o .planned ≤ j → cell (writes start qs .table) j ≡ cell (start .table) j
   pub as-many : length (writes start qs .table) ≡ length (start .table)
 
