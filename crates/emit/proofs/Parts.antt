@@ -1,6 +1,6 @@
--- The parts of META1 that are stored together: how long each is, and that one after the other they are what opening stores.
+-- The parts of META1 that are stored together: how long each is, and that stored one after the other they are what opening stores.
 -- Assumes nothing.
-use mathlib.Core.Path.{_≡_, refl, ap, ap₂, sym, _∙_}
+use mathlib.Core.Path.{_≡_, refl, ap, sym, _∙_}
 use mathlib.Core.Bool.{Bool, true, false}
 use mathlib.Core.List.{List, [], _∷_, _++_, flatten, append-assoc, append-nil}
 use Prim.Native.Nat.{ℕ, _+_, _-_, _*_, _≤_}
@@ -14,6 +14,8 @@ use Rattle.endian.specs.Below.{joinBelow}
 use Rattle.endian.specs.Signed.{signedDigits}
 use Rattle.endian.specs.Splice.{splice}
 use Rattle.endian.proofs.Number.{length-digits}
+use Rattle.endian.proofs.Signed.{length-numbers}
+use Rattle.endian.proofs.Splice.{put-first, put-then}
 use Rattle.layout.specs.Limits.{blocksizeRule}
 use Rattle.layout.specs.Areas.{meta1End, dataStart}
 use Rattle.layout.proofs.Chunks.{meta1-before-data}
@@ -41,7 +43,7 @@ length-shape big blocksize n = simp (length-append, length-digits)
 pub length-padded : (prefix : List ℕ) → length prefix ≤ prefixLength → length (padded prefix) ≡ prefixLength
 length-padded prefix l = simp (length-append, length-replicate) (omega arith)
 
-pub length-fixed : (h : Head) (big : Bool) (prefix : List ℕ) → length prefix ≤ prefixLength
+length-fixed : (h : Head) (big : Bool) (prefix : List ℕ) → length prefix ≤ prefixLength
     → length ((versions big (h .version) (h .patch) ++ shape big (h .blocksize) (h .n)) ++ padded prefix) ≡ fixedLength
 length-fixed h big prefix l =
     simp length-append
@@ -64,6 +66,9 @@ unfolding lastFields
 last-zero true = refl
 last-zero false = refl
 
+zeros-parts : (big : Bool) (k : ℕ) → replicate (12 + k) 0 ≡ lastFields big 0 0 ++ replicate k 0
+zeros-parts big k = sym (replicate-append-replicate 12 k 0) ∙ ap (λ (l : List ℕ). l ++ replicate k 0) (sym (last-zero big))
+
 -- the pieces of META1's front, grouped as they are stored
 regroup : (a b c d e f g k l m n z o p q : List ℕ) → m ++ n ≡ z
     → ((((((((a ++ b) ++ c) ++ d) ++ e) ++ ((((f ++ g) ++ k) ++ l) ++ z)) ++ o) ++ p) ++ q)
@@ -82,7 +87,7 @@ module _ (h : Head) (prefix : List ℕ) where
   front-parts = regroup _ _ _ _ _ _ _ _ _ _ _ _ _ _ _ (flags-zero (isBig h))
 
   -- and then zeros from one store: the last two fields and all up to D
-  pub opening-parts : lastAt (h .n) + 12 ≤ dataStart (h .blocksize) (h .n)
+  opening-parts : lastAt (h .n) + 12 ≤ dataStart (h .blocksize) (h .n)
       → ((((versions (isBig h) (h .version) (h .patch) ++ shape (isBig h) (h .blocksize) (h .n)) ++ padded prefix)
       ++ joinBelow (h .n) (λ i. signedDigits (isBig h) 8 (pos (entry (h .ranks) i))))
       ++ joinBelow (h .n) (λ i. signedDigits (isBig h) 8 (pos (entry (h .sizes) i))))
@@ -90,10 +95,24 @@ module _ (h : Head) (prefix : List ℕ) where
       ≡ openingBytes h prefix
   unfolding openingBytes meta1 meta1End
   opening-parts fits =
-      let d : ℕ = dataStart (h .blocksize) (h .n) in
-      let k : ℕ = d - (1088 + 16 * h .n) in
-      let split : d - lastAt (h .n) ≡ 12 + k = omega arith in
-      let zeros : replicate (d - lastAt (h .n)) 0 ≡ lastFields (isBig h) 0 0 ++ replicate k 0 =
-      ap (λ (m : ℕ). replicate m 0) split ∙ sym (replicate-append-replicate 12 k 0)
-      ∙ ap (λ (l : List ℕ). l ++ replicate k 0) (sym (last-zero (isBig h))) in
-      ap₂ _++_ front-parts zeros ∙ sym (append-assoc (meta1Front h prefix) (lastFields (isBig h) 0 0) (replicate k 0))
+      let k : ℕ = dataStart (h .blocksize) (h .n) - meta1End (h .n) in
+      let split : dataStart (h .blocksize) (h .n) - lastAt (h .n) ≡ 12 + k = omega arith in
+      rw (front-parts, split, zeros-parts (isBig h)) (sym (append-assoc (meta1Front h prefix) (lastFields (isBig h) 0 0) (replicate k 0)))
+
+  -- four stores, each where the last ended, leave it at the start
+  pub opening-stored : (xs : List ℕ) {ys₁ ys₂ ys₃ ys₄ : List ℕ} {end : ℕ} → length prefix ≤ prefixLength → blocksizeRule (pos (h .blocksize)) ≡ true
+      → dataStart (h .blocksize) (h .n) ≤ length xs → end ≡ dataStart (h .blocksize) (h .n)
+      → ys₁ ≡ splice xs 0 ((versions (isBig h) (h .version) (h .patch) ++ shape (isBig h) (h .blocksize) (h .n)) ++ padded prefix)
+      → ys₂ ≡ splice ys₁ fixedLength (joinBelow (h .n) (λ i. signedDigits (isBig h) 8 (pos (entry (h .ranks) i))))
+      → ys₃ ≡ splice ys₂ (fixedLength + 8 * h .n) (joinBelow (h .n) (λ i. signedDigits (isBig h) 8 (pos (entry (h .sizes) i))))
+      → ys₄ ≡ splice ys₃ (fixedLength + 8 * h .n + 8 * h .n) (replicate (end - (fixedLength + 8 * h .n + 8 * h .n)) 0)
+      → ys₄ ≡ splice xs 0 (openingBytes h prefix)
+  opening-stored xs {ys₃ = ys₃} {end = end} short block room e s₁ s₂ s₃ s₄ =
+      let fits = opening-fits (h .blocksize) (h .n) block in
+      let gap : ℕ = dataStart (h .blocksize) (h .n) - lastAt (h .n) in
+      let fixed = put-first xs 0 _ fixedLength (length-fixed h (isBig h) prefix short) s₁ in
+      let ranks = put-then xs 0 _ _ (8 * h .n) fixed (length-numbers (isBig h) 8 (h .n) (λ i. pos (entry (h .ranks) i))) s₂ (omega arith) in
+      let sizes = put-then xs 0 _ _ (8 * h .n) ranks (length-numbers (isBig h) 8 (h .n) (λ i. pos (entry (h .sizes) i))) s₃ (omega arith) in
+      let rest : end - (fixedLength + 8 * h .n + 8 * h .n) ≡ gap = omega arith in
+      let zeros = s₄ ∙ ap (λ (k : ℕ). splice ys₃ (fixedLength + 8 * h .n + 8 * h .n) (replicate k 0)) rest in
+      put-then xs 0 _ (replicate gap 0) gap sizes (length-replicate gap 0) zeros (omega arith) .0 ∙ ap (splice xs 0) (opening-parts fits)

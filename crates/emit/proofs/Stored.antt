@@ -41,7 +41,7 @@ front-widths h prefix short rest =
     (more (eight _) (more (eight _)
     (more (length-padded prefix short) (more (numbers (λ i. pos (entry (h .ranks) i))) (more (numbers (λ i. pos (entry (h .sizes) i))) rest)))))))))))))
 
-pub length-front : (h : Head) (prefix : List ℕ) → length prefix ≤ Meta1.prefixLength → length (Meta1.meta1Front h prefix) ≡ Meta1.lastAt (h .n)
+length-front : (h : Head) (prefix : List ℕ) → length prefix ≤ Meta1.prefixLength → length (Meta1.meta1Front h prefix) ≡ Meta1.lastAt (h .n)
 unfolding Meta1.meta1Front
 length-front h prefix short = length-pieces (front-widths h prefix short none) ∙ omega arith
 
@@ -49,7 +49,7 @@ pub length-last : (big : Bool) (maxchunks start : ℕ) → length (Meta1.lastFie
 unfolding Meta1.lastFields
 length-last big maxchunks start = simp (length-append, length-digits)
 
-pub length-meta1 : (h : Head) (prefix : List ℕ) (maxchunks start : ℕ) → length prefix ≤ Meta1.prefixLength
+length-meta1 : (h : Head) (prefix : List ℕ) (maxchunks start : ℕ) → length prefix ≤ Meta1.prefixLength
     → length (Meta1.meta1 h prefix maxchunks start) ≡ meta1End (h .n)
 unfolding Meta1.meta1 meta1End
 length-meta1 h prefix maxchunks start short =

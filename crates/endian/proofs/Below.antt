@@ -1,6 +1,6 @@
--- Laws of what is said of every index below a number, by which a loop that counts up computes it. Assumes nothing.
+-- Laws of tests, and of what is said of every index below a number, by which a loop that counts up computes it. Assumes nothing.
 use mathlib.Core.Path.{_≡_, refl, ap, ap₂, sym, _∙_}
-use mathlib.Core.Bool.{Bool, true, false, _&&_, _||_, and-false, or-true, false≢true}
+use mathlib.Core.Bool.{Bool, true, false, not, _&&_, _||_, and-false, or-true, false≢true}
 use mathlib.Core.List.{List, [], _∷_, _++_}
 use mathlib.Core.Logic.{⊎-elim}
 use Prim.Native.Nat.{ℕ, zero, suc, _+_, _*_, _<_, _≤_, max, zero-le}
@@ -12,8 +12,15 @@ use lib.Arith.{le-zero}
 use lib.Dec.{leb}
 use lib.ListN.{length, take, drop, getD, replicate, length-append, length-drop, length-replicate, getD-replicate, List·getD-append}
 use lib.Seq.{ext-getD, take-all, take-suc, take-append-le, drop-at, drop-append-le, getD-at, getD-drop}
-use borrow.Author.Tests.{leb-true, leb-false}
+use borrow.Author.Tests.{leb-true, leb-false, not-true, not-false}
 use Rattle.endian.specs.Below.{allBelow, anyBelow, sumBelow, greatestBelow, joinBelow, listBelow}
+
+-- what a test t says that a call answered with r, where the code asked for its opposite
+pub test-fails : {r t : Bool} → r ≡ t → not r ≡ true → t ≡ false
+test-fails e h = sym e ∙ not-true _ h
+
+pub test-holds : {r t : Bool} → r ≡ t → not r ≡ false → t ≡ true
+test-holds e h = sym e ∙ not-false _ h
 
 -- both halves of a test that holds
 pub and-left : (a b : Bool) → (a && b) ≡ true → a ≡ true
@@ -113,7 +120,7 @@ module _ (f : ℕ → ℕ) where
   sum-le (suc n) m h = omega (arith, suc-mul n m, h n (omega arith), sum-le n m (λ i l. h i (omega arith)))
 
   -- a sum over more indices is at least as great
-  pub sum-mono : (m n : ℕ) → m ≤ n → sumBelow m f ≤ sumBelow n f
+  sum-mono : (m n : ℕ) → m ≤ n → sumBelow m f ≤ sumBelow n f
   unfolding sumBelow
   sum-mono m zero l = le-of-eq (ap (λ (k : ℕ). sumBelow k f) (le-zero l))
   sum-mono m (suc n) l =

@@ -38,13 +38,13 @@ signed-pos h n m e = go (ltb n (2 ^ h)) e
     go true e = cc
     go false e = cc
 
-pub signed-bitsOf : (h : ℕ) (z : ℤ) → mag z < 2 ^ h → signed h (bitsOf h z) ≡ z
+signed-bitsOf : (h : ℕ) (z : ℤ) → mag z < 2 ^ h → signed h (bitsOf h z) ≡ z
 signed-bitsOf h (pos n) l = signed-low h n l
 signed-bitsOf h (negsuc n) l =
     let e = pow-suc 2 h in
     signed-high h (2 ^ suc h - suc n) (rw e (comp-ge l)) ∙ ap negsuc (comp-comp (rw e (omega arith)))
 
-pub bitsOf-lt : (h : ℕ) (z : ℤ) → mag z < 2 ^ h → bitsOf h z < 2 ^ suc h
+bitsOf-lt : (h : ℕ) (z : ℤ) → mag z < 2 ^ h → bitsOf h z < 2 ^ suc h
 bitsOf-lt h (pos n) l = let e = pow-suc 2 h in omega arith
 bitsOf-lt h (negsuc n) l = let e = pow-suc 2 h in omega arith
 
@@ -85,7 +85,7 @@ pow-bytes : (w : ℕ) → 2 ^ (8 * w) ≡ 256 ^ w
 pow-bytes zero = refl
 pow-bytes (suc w) = rw (mul-suc, pow-add 2 (8 * w) 8, pow-bytes w, pow-suc 256 w)
 
-pub pow-signBit : (w : ℕ) → 0 < w → 2 ^ suc (signBit w) ≡ 256 ^ w
+pow-signBit : (w : ℕ) → 0 < w → 2 ^ suc (signBit w) ≡ 256 ^ w
 pow-signBit w h = ap (λ (n : ℕ). 2 ^ n) (omega arith) ∙ pow-bytes w
 
 -- n integers, one after the other

@@ -55,7 +55,7 @@ module _ {b n : ℕ} {sizes : List ℕ} (sound : Sound b n sizes) where
       (λ j h. roundUp-small b (getD sizes j 0) (sound .block) (sound-size j (omega arith) .1)))
       (mul-le-mul-right (maxSize + maxBlocksize) (le-trans l (sound .tasks)))
 
-  pub globalskip-small : globalskip b n (λ j. getD sizes j 0) ≤ maxTasks * (maxSize + maxBlocksize)
+  globalskip-small : globalskip b n (λ j. getD sizes j 0) ≤ maxTasks * (maxSize + maxBlocksize)
   unfolding globalskip
   globalskip-small = extendedBefore-small n (le-refl n)
 

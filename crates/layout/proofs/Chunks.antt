@@ -20,7 +20,7 @@ unfolding dataStart
 meta1-before-data b n h = roundUp-ge b (meta1End n) h
 
 -- all that the laws below ask of `capacity`
-pub capacity-fits : (b c : ℕ) → 0 < b → capacity b c ≤ extended b c
+capacity-fits : (b c : ℕ) → 0 < b → capacity b c ≤ extended b c
 unfolding capacity extended
 capacity-fits b c h = roundUp-ge b c h
 
@@ -62,11 +62,11 @@ chunk-before-meta2 b n size task chunk maxchunks h t1 tn c1 cm =
     )
 
 -- every chunk starts at a multiple of b
-pub extendedBefore-multiple : (b : ℕ) (size : ℕ → ℕ) (i : ℕ) → (q : ℕ) × (extendedBefore b size i ≡ q * b)
+extendedBefore-multiple : (b : ℕ) (size : ℕ → ℕ) (i : ℕ) → (q : ℕ) × (extendedBefore b size i ≡ q * b)
 unfolding extendedBefore extended
 extendedBefore-multiple b size i = sum-multiple (λ j. extended b (size j)) b i (λ j. roundUp-multiple b (size j))
 
-pub chunkStart-multiple : (b n : ℕ) (size : ℕ → ℕ) (task chunk : ℕ) → (q : ℕ) × (chunkStart b n size task chunk ≡ q * b)
+chunkStart-multiple : (b n : ℕ) (size : ℕ → ℕ) (task chunk : ℕ) → (q : ℕ) × (chunkStart b n size task chunk ≡ q * b)
 unfolding chunkStart dataStart globalskip
 chunkStart-multiple b n size task chunk =
     let d = roundUp-multiple b (meta1End n) in
@@ -127,12 +127,12 @@ meta2End-mono b n size m m′ l =
 
 -- the layout looks only at the sizes of the n tasks
 module _ (b n : ℕ) (size size′ : ℕ → ℕ) (agree : (i : ℕ) → i < n → size i ≡ size′ i) where
-  pub extendedBefore-agree : (i : ℕ) → i ≤ n → extendedBefore b size i ≡ extendedBefore b size′ i
+  extendedBefore-agree : (i : ℕ) → i ≤ n → extendedBefore b size i ≡ extendedBefore b size′ i
   unfolding extendedBefore
   extendedBefore-agree i l =
       sum-cong (λ j. extended b (size j)) (λ j. extended b (size′ j)) i (λ j h. ap (extended b) (agree j (omega arith)))
 
-  pub globalskip-agree : globalskip b n size ≡ globalskip b n size′
+  globalskip-agree : globalskip b n size ≡ globalskip b n size′
   unfolding globalskip
   globalskip-agree = extendedBefore-agree n (le-refl n)
 

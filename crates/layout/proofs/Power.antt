@@ -28,7 +28,7 @@ ones-zero (suc k) n h e =
     omega (arith, div-add-mod' n 2)
 
 -- a number with one set digit is the power that its trailing zeros say
-pub ones-one : (k b : ℕ) → b < 2 ^ k → ones b ≡ 1 → b ≡ 2 ^ trailingZeros k b
+ones-one : (k b : ℕ) → b < 2 ^ k → ones b ≡ 1 → b ≡ 2 ^ trailingZeros k b
 unfolding ones trailingZeros
 ones-one zero b h e = absurd (let z : ones b ≡ 0 = ap ones (lt-one h) in omega arith)
 ones-one (suc k) b h e = go (b % 2) refl (λ q. ones-one k (b / 2) (half-lt k h) q)
@@ -47,7 +47,7 @@ ones-one-lt : (k b : ℕ) → b < 2 ^ k → ones b ≡ 1 → trailingZeros k b <
 ones-one-lt k b h e =
     lt-of-not-le (λ (g : k ≤ trailingZeros k b). not-le-of-lt h (le-trans (pow-mono g) (le-of-eq (sym (ones-one k b h e)))))
 
-pub ones-power : (j : ℕ) → ones (2 ^ j) ≡ 1
+ones-power : (j : ℕ) → ones (2 ^ j) ≡ 1
 unfolding ones
 ones-power j = ap ones (sym (one-mul (2 ^ j)) ∙ sym (add-zero (1 * 2 ^ j))) ∙ ones-cat j 1 0 (pow-pos j)
 
@@ -58,7 +58,7 @@ power-of-two b e =
     let r = any-at (λ j. eqb b (2 ^ j)) wordBits e in
     (r .0, eqb-true b (2 ^ r .0) (r .2))
 
-pub power-holds : (j : ℕ) → j < wordBits → powerOfTwo (2 ^ j) ≡ true
+power-holds : (j : ℕ) → j < wordBits → powerOfTwo (2 ^ j) ≡ true
 unfolding powerOfTwo
 power-holds j l = any-of (λ i. eqb (2 ^ j) (2 ^ i)) wordBits j l (eq-eqb (2 ^ j) (2 ^ j) refl)
 

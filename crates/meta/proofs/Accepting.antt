@@ -160,7 +160,7 @@ module _ (h : Head) (maxchunks : ℕ) (part : List ℕ) where
     pub counts : Meta2.countsRule (h .n) maxchunks (Meta2.countField (isBig h) part) ≡ true
     pub values : Meta2.valuesRule (h .n) maxchunks (holds h) (entry (countsIn h maxchunks part)) (Meta2.valueField (isBig h) part (h .n)) ≡ true
 
-  pub meta2-numbered : Numbered (meta2Tests h maxchunks part)
+  meta2-numbered : Numbered (meta2Tests h maxchunks part)
   unfolding meta2Tests
   meta2-numbered = omega arith
 

@@ -1,12 +1,12 @@
 -- What the tests of META1 and of META2 answer, from what the code finds as it goes through them. Assumes nothing.
 use mathlib.Core.Path.{_≡_, refl, ap, ap₂, sym, subst, _∙_}
-use mathlib.Core.Bool.{Bool, true, cond, not, _||_}
+use mathlib.Core.Bool.{Bool, true, false, cond, not, _||_}
 use mathlib.Core.List.{List, _++_}
 use mathlib.Core.Logic.{⊎-elim}
 use Prim.Native.Nat.{ℕ, _+_, _*_, _^_, _<_, _≤_}
 use native.Mathlib.Nat.{eq-zero-or-pos}
 use native.Mathlib.Omega.{arith}
-use borrow.Author.Tests.{ltb-false, ne-eqb, not-false}
+use borrow.Author.Tests.{lt-ltb, le-ltb, ltb-false, eq-eqb, ne-eqb, not-false}
 use lib.Dec.{ltb, eqb}
 use lib.IntN.{pos}
 use lib.ListN.{getD}
@@ -58,7 +58,7 @@ module _ (xs : List ℕ) (len : ℕ) where
   unfolding meta1Tests
   after-fixed e = first-passes (fixedTests xs len) (listTests xs ++ lastTests xs len) fixed-numbered e
 
-  pub after-lists : firstFailing (fixedTests xs len) ≡ 0 → firstFailing (listTests xs) ≡ 0
+  after-lists : firstFailing (fixedTests xs len) ≡ 0 → firstFailing (listTests xs) ≡ 0
       → firstFailing (meta1Tests xs len) ≡ firstFailing (lastTests xs len)
   after-lists e f = after-fixed e ∙ first-passes (listTests xs) (lastTests xs len) list-numbered f
 
@@ -83,37 +83,41 @@ module _ (xs : List ℕ) (len : ℕ) where
     unfolding fixedTests
     refused-fields f e = refused-fixed (first-passes (startTests xs len) (fieldTests xs len) start-numbered f ∙ e)
 
-    pub refused-lists : firstFailing (fixedTests xs len) ≡ 0 → firstFailing (listTests xs) ≡ r → noFirst r ≡ firstOf xs len
+    refused-lists : firstFailing (fixedTests xs len) ≡ 0 → firstFailing (listTests xs) ≡ r → noFirst r ≡ firstOf xs len
     refused-lists f e = refused-first (after-fixed f ∙ first-fails (listTests xs) (lastTests xs len) (first e) ∙ e)
 
-    pub refused-last : firstFailing (fixedTests xs len) ≡ 0 → firstFailing (listTests xs) ≡ 0 → firstFailing (lastTests xs len) ≡ r
+    refused-last : firstFailing (fixedTests xs len) ≡ 0 → firstFailing (listTests xs) ≡ 0 → firstFailing (lastTests xs len) ≡ r
         → noFirst r ≡ firstOf xs len
     refused-last f g e = refused-first (after-lists f g ∙ e)
 
--- ---- what the fields are, once their tests passed; n is the reading of ntasks, without a sign
-module _ (xs : List ℕ) (len : ℕ) (big : Bool) (n : ℕ) (same : big ≡ bigIn xs) (at24 : n ≡ numberAt big 4 xs 24)
-    (fine : firstFailing (fixedTests xs len) ≡ 0) where
+-- ---- the lists, once the tests of the fields before them passed; n is the reading of ntasks, without a sign
+pub record FieldsPassed (xs : List ℕ) (len : ℕ) (big : Bool) (n : ℕ) : Type 0 where
+  pub same : big ≡ bigIn xs
+  pub tasks-are : n ≡ numberAt big 4 xs 24
+  pub fine : firstFailing (fixedTests xs len) ≡ 0
+
+module _ {xs : List ℕ} {len : ℕ} {big : Bool} {n : ℕ} (p : FieldsPassed xs len big n) where
   pub field-facts : (blocksizeRule (pos (numberAt big 4 xs 20)) ≡ true) × (tasksRule (pos n) ≡ true) × (meta1End n ≤ len)
   unfolding fixedTests fieldTests tasksIn
   field-facts =
-      let zero = both-pass (startTests xs len) (fieldTests xs len) (start-numbered xs len) fine .1 in
+      let zero = both-pass (startTests xs len) (fieldTests xs len) (start-numbered xs len) (p .fine) .1 in
       let (format, (block, (tasks, (files, (long, end))))) = none-fails (fieldTests xs len) (omega arith) zero in
       let tasks′ : tasksRule (pos n) ≡ true =
-      sym (tasks-number n) ∙ ap (λ (v : ℕ). tasksRule (signed 31 v)) at24 ∙ ap (λ (o : Bool). tasksRule (tasksField o xs)) same
+      sym (tasks-number n) ∙ ap (λ (v : ℕ). tasksRule (signed 31 v)) (p .tasks-are) ∙ ap (λ (o : Bool). tasksRule (tasksField o xs)) (p .same)
       ∙ not-false _ tasks in
       let number : natural (tasksField (bigIn xs) xs) ≡ n =
-      rw (sym same, sym at24) (natural-signed 31 n (omega (arith, tasks-facts n tasks′ .1))) in (
-        sym (blocksize-number (numberAt big 4 xs 20)) ∙ ap (λ (o : Bool). blocksizeRule (blocksizeField o xs)) same ∙ not-false _ block,
+      rw (sym (p .same), sym (p .tasks-are)) (natural-signed 31 n (omega (arith, tasks-facts n tasks′ .1))) in (
+        sym (blocksize-number (numberAt big 4 xs 20)) ∙ ap (λ (o : Bool). blocksizeRule (blocksizeField o xs)) (p .same) ∙ not-false _ block,
         tasks′,
         rw number at (ltb-false len (meta1End (natural (tasksField (bigIn xs) xs))) long),
       )
 
-  few : n ≤ maxTasks
-  few = tasks-facts n (field-facts .1) .1
+  pub few-tasks : n ≤ maxTasks
+  few-tasks = tasks-facts n (field-facts .1) .1
 
-  pub tasks-in : tasksIn xs ≡ n
+  tasks-in : tasksIn xs ≡ n
   unfolding tasksIn
-  tasks-in = rw (sym same, sym at24) (natural-signed 31 n (omega (arith, few)))
+  tasks-in = rw (sym (p .same), sym (p .tasks-are)) (natural-signed 31 n (omega (arith, few-tasks)))
 
   -- the lists of the head read, entry by entry
   abbrev rank : ℕ → ℕ
@@ -122,16 +126,29 @@ module _ (xs : List ℕ) (len : ℕ) (big : Bool) (n : ℕ) (same : big ≡ bigI
   abbrev size : ℕ → ℕ
   size i = numberAt big 8 xs (fixedLength + 8 * n + 8 * i)
 
-  -- the tests of the lists, of what is read without a sign
-  pub lists-unsigned : firstFailing (listTests xs)
-      ≡ cond (not (ranksRule n (λ i. pos (getD (headRaw xs big n .ranks) i 0)))) 8
-      (cond (not (sizesRule n (λ i. pos (getD (headRaw xs big n .sizes) i 0)))) 9 0)
-  unfolding firstFailing listTests headRaw headOf
-  lists-unsigned =
-      rw (tasks-in, sym same)
-      (ap₂ (λ (r s : Bool). cond (not r) 8 (cond (not s) 9 0))
-      (sym (ranks-unsigned 63 n rank (λ i. getD (filled n rank) i 0) (λ i l. entry-filled n rank i few l) (omega arith)))
-      (sym (sizes-unsigned 63 n size (λ i. getD (filled n size) i 0) (λ i l. entry-filled n size i few l) (omega arith))))
+  -- the tests of the lists, of the head h that is read without a sign
+  module _ {h : Head} (read : h ≡ headRaw xs big n) where
+    lists-unsigned : firstFailing (listTests xs)
+        ≡ cond (not (ranksRule n (λ i. pos (getD (h .ranks) i 0)))) 8 (cond (not (sizesRule n (λ i. pos (getD (h .sizes) i 0)))) 9 0)
+    unfolding firstFailing listTests headRaw headOf
+    lists-unsigned =
+        rw (tasks-in, sym (p .same))
+        (ap₂ (λ (r s : Bool). cond (not r) 8 (cond (not s) 9 0))
+        (sym (ranks-unsigned 63 n rank (λ i. getD (filled n rank) i 0) (λ i l. entry-filled n rank i few-tasks l) (omega arith)))
+        (sym (sizes-unsigned 63 n size (λ i. getD (filled n size) i 0) (λ i l. entry-filled n size i few-tasks l) (omega arith)))
+        ∙ ap (λ (q : Head). cond (not (ranksRule n (λ i. pos (getD (q .ranks) i 0)))) 8 (cond (not (sizesRule n (λ i. pos (getD (q .sizes) i 0)))) 9 0))
+        (sym read))
+
+    -- 8 and 9, or both lists pass
+    pub bad-ranks : ranksRule n (λ i. pos (getD (h .ranks) i 0)) ≡ false → noFirst 8 ≡ firstOf xs len
+    bad-ranks e = refused-lists xs len 8 (λ e. omega arith) (p .fine) (lists-unsigned ∙ rw e)
+
+    module _ (ranked : ranksRule n (λ i. pos (getD (h .ranks) i 0)) ≡ true) where
+      pub bad-sizes : sizesRule n (λ i. pos (getD (h .sizes) i 0)) ≡ false → noFirst 9 ≡ firstOf xs len
+      bad-sizes e = refused-lists xs len 9 (λ e. omega arith) (p .fine) (lists-unsigned ∙ rw (ranked, e))
+
+      pub lists-pass : sizesRule n (λ i. pos (getD (h .sizes) i 0)) ≡ true → firstFailing (listTests xs) ≡ 0
+      lists-pass e = lists-unsigned ∙ rw (ranked, e)
 
   -- a list whose fields are in range is read as the rules read it
   list-read : (f : ℕ → ℕ) (lo hi : ℕ) → hi < 2 ^ 63 → allBelow n (λ i. within lo hi (signed 63 (f i))) ≡ true
@@ -146,9 +163,9 @@ module _ (xs : List ℕ) (len : ℕ) (big : Bool) (n : ℕ) (same : big ≡ bigI
   head-read e =
       let (ranks, (sizes, end)) = none-fails (listTests xs) (list-numbered xs len) e in
       let b = numberAt big 4 xs 20 in
-      let ranked : ranksRule n (rankField big xs) ≡ true = rw (sym tasks-in, same) (not-false _ ranks) in
-      let sized : sizesRule n (sizeField big xs n) ≡ true = rw (sym tasks-in, same) (not-false _ sizes) in
-      rw (tasks-in, sym same)
+      let ranked : ranksRule n (rankField big xs) ≡ true = rw (sym tasks-in, p .same) (not-false _ ranks) in
+      let sized : sizesRule n (sizeField big xs n) ≡ true = rw (sym tasks-in, p .same) (not-false _ sizes) in
+      rw (tasks-in, sym (p .same))
       (λ i. record {
         order = orderOf big;
         version = versionField big xs;
@@ -167,31 +184,31 @@ pub record ListsPassed (xs : List ℕ) (len : ℕ) (big : Bool) (h : Head) : Typ
   pub read : h ≡ headIn xs
 
 module _ {xs : List ℕ} {len : ℕ} {big : Bool} {h : Head} (p : ListsPassed xs len big h) where
+  fields-passed : FieldsPassed xs len big (numberAt big 4 xs 24)
+  fields-passed = record { same = p .same; tasks-are = refl; fine = p .fine }
+
   pub head-sound : Sound (h .blocksize) (h .n) (h .sizes)
   unfolding listTests headRaw headOf
   head-sound =
       let n = numberAt big 4 xs 24 in
       let f : ℕ → ℕ = λ i. numberAt big 8 xs (fixedLength + 8 * n + 8 * i) in
-      let (block, tasks, long) = field-facts xs len big n (p .same) refl (p .fine) in
-      let few = tasks-facts n tasks .1 in
+      let few = few-tasks fields-passed in
       let (ranks, (sizes, end)) = none-fails (listTests xs) (list-numbered xs len) (p .listed) in
-      let sized : sizesRule n (sizeField big xs n) ≡ true = rw (sym (tasks-in xs len big n (p .same) refl (p .fine)), (p .same)) (not-false _ sizes) in
+      let sized : sizesRule n (sizeField big xs n) ≡ true = rw (sym (tasks-in fields-passed), p .same) (not-false _ sizes) in
       let raw : Sound (headRaw xs big n .blocksize) n (headRaw xs big n .sizes) = record {
-        block = block;
+        block = field-facts fields-passed .0;
         tasks = few;
         listed = omega (arith, length-filled n f);
         sized = sizes-unsigned 63 n f (λ i. getD (filled n f) i 0) (λ i l. entry-filled n f i few l) (omega arith) ∙ sized;
       } in
-      subst (λ (g : Head). Sound (g .blocksize) (g .n) (g .sizes)) (head-read xs len big n (p .same) refl (p .fine) (p .listed) ∙ sym (p .read)) raw
+      subst (λ (g : Head). Sound (g .blocksize) (g .n) (g .sizes)) (head-read fields-passed (p .listed) ∙ sym (p .read)) raw
 
   tasks-head : tasksIn xs ≡ h .n
   unfolding headIn headOf
   tasks-head = sym (ap (λ (g : Head). g .n) (p .read))
 
   pub head-long : meta1End (h .n) ≤ len
-  head-long =
-      let n = numberAt big 4 xs 24 in
-      rw (sym tasks-head, tasks-in xs len big n (p .same) refl (p .fine)) (field-facts xs len big n (p .same) refl (p .fine) .2)
+  head-long = rw (sym tasks-head, tasks-in fields-passed) (field-facts fields-passed .2)
 
   maxchunks-in : (m : ℕ) → m ≡ numberAt big 4 xs (lastAt (h .n)) → maxchunksRule (pos m) ≡ true → maxchunksIn xs ≡ m
   unfolding maxchunksIn
@@ -201,27 +218,55 @@ module _ {xs : List ℕ} {len : ℕ} {big : Bool} {h : Head} (p : ListsPassed xs
   unfolding meta2At meta2End
   place-small m e = omega (arith, meta2End-small head-sound m (maxchunks-facts m e))
 
-  -- the tests of the last two fields, of what is read without a sign
-  pub last-unsigned : (m start : ℕ) → m ≡ numberAt big 4 xs (lastAt (h .n)) → start ≡ numberAt big 8 xs (lastAt (h .n) + 4)
-      → firstFailing (lastTests xs len)
+-- ---- 10, 11 and 12, once they are read as m and start, without a sign
+pub record LastRead (xs : List ℕ) (len : ℕ) (big : Bool) (h : Head) (m start : ℕ) : Type 0 where
+  pub passed : ListsPassed xs len big h
+  pub maxchunks-is : m ≡ numberAt big 4 xs (lastAt (h .n))
+  pub start-is : start ≡ numberAt big 8 xs (lastAt (h .n) + 4)
+
+module _ {xs : List ℕ} {len : ℕ} {big : Bool} {h : Head} {m start : ℕ} (r : LastRead xs len big h m start) where
+  last-unsigned : firstFailing (lastTests xs len)
       ≡ cond (eqb start 0) 10
       (cond (not (maxchunksRule (pos m))) 11 (cond (not (eqb start (meta2At h m)) || ltb len (endAt h m)) 12 0))
   unfolding firstFailing lastTests
-  last-unsigned m start mAt sAt =
-      rw (sym (p .read), tasks-head, sym (p .same), sym mAt, sym sAt, is-number 0 63 start (omega arith), maxchunks-number m)
+  last-unsigned =
+      let p = r .passed in
+      rw (sym (p .read), tasks-head p, sym (p .same), sym (r .maxchunks-is), sym (r .start-is), is-number 0 63 start (omega arith), maxchunks-number m)
       (ap (λ (rest : ℕ). cond (eqb start 0) 10 rest)
       (passed-agree (maxchunksRule (pos m)) 11
       (cond (not (is (meta2At h (maxchunksIn xs)) (signed 63 start)) || ltb len (endAt h (maxchunksIn xs))) 12 0)
       (cond (not (eqb start (meta2At h m)) || ltb len (endAt h m)) 12 0)
-      (λ e. rw (maxchunks-in m mAt e, is-number (meta2At h m) 63 start (place-small m e)))))
+      (λ e. rw (maxchunks-in p m (r .maxchunks-is) e, is-number (meta2At h m) 63 start (place-small p m e)))))
 
-  -- accepted, the numbers read are handed back
-  pub accepted-first : (m start : ℕ) → m ≡ numberAt big 4 xs (lastAt (h .n)) → maxchunksRule (pos m) ≡ true → start ≡ meta2At h m
-      → firstFailing (lastTests xs len) ≡ 0 → record { refusal = 0; maxchunks = m; start = start; head = h } ≡ firstOf xs len
-  unfolding firstOf
-  accepted-first m start mAt few place zero =
-      rw (after-lists xs len (p .fine) (p .listed) ∙ zero, maxchunks-in m mAt few, sym (p .read))
-      (λ i. record { refusal = 0; maxchunks = m; start = place i; head = h })
+  refused : (q : ℕ) → (q ≡ 0 → ⊥) → firstFailing (lastTests xs len) ≡ q → noFirst q ≡ firstOf xs len
+  refused q some e = refused-last xs len q some (r .passed .fine) (r .passed .listed) e
+
+  pub not-closed : start ≡ 0 → noFirst 10 ≡ firstOf xs len
+  not-closed e = refused 10 (λ e. omega arith) (last-unsigned ∙ rw (eq-eqb start 0 e))
+
+  module _ (closed : start ≡ 0 → ⊥) where
+    pub bad-maxchunks : maxchunksRule (pos m) ≡ false → noFirst 11 ≡ firstOf xs len
+    bad-maxchunks e = refused 11 (λ e. omega arith) (last-unsigned ∙ rw (ne-eqb start 0 closed, e))
+
+    module _ (counted : maxchunksRule (pos m) ≡ true) where
+      pub elsewhere : (start ≡ meta2At h m → ⊥) → noFirst 12 ≡ firstOf xs len
+      elsewhere e = refused 12 (λ e. omega arith) (last-unsigned ∙ rw (ne-eqb start 0 closed, counted, ne-eqb start (meta2At h m) e))
+
+      module _ (place : start ≡ meta2At h m) where
+        pub past-end : len < endAt h m → noFirst 12 ≡ firstOf xs len
+        past-end l =
+            refused 12 (λ e. omega arith)
+            (last-unsigned ∙ rw (ne-eqb start 0 closed, counted, eq-eqb start (meta2At h m) place, lt-ltb len (endAt h m) l))
+
+        -- accepted, the numbers read are handed back
+        pub accepted-first : endAt h m ≤ len → record { refusal = 0; maxchunks = m; start = start; head = h } ≡ firstOf xs len
+        unfolding firstOf
+        accepted-first l =
+            let p = r .passed in
+            let zero : firstFailing (lastTests xs len) ≡ 0 =
+            last-unsigned ∙ rw (ne-eqb start 0 closed, counted, eq-eqb start (meta2At h m) place, le-ltb len (endAt h m) l) in
+            rw (after-lists xs len (p .fine) (p .listed) ∙ zero, maxchunks-in p m (r .maxchunks-is) counted, sym (p .read))
+            (λ i. record { refusal = 0; maxchunks = m; start = place i; head = h })
 
 -- ---- where all of META1's tests pass
 module _ (xs : List ℕ) (len : ℕ) (zero : firstFailing (meta1Tests xs len) ≡ 0) where

@@ -1,7 +1,7 @@
 -- A field of a container, signed in the rules, read as an unsigned number: the tests come out the same. Assumes nothing.
 use mathlib.Core.Path.{_≡_, refl, ap, sym, _∙_}
 use mathlib.Core.Bool.{Bool, true, false, cond, not, _&&_}
-use mathlib.Core.List.{List}
+use mathlib.Core.List.{List, [], _∷_}
 use Prim.Native.Nat.{ℕ, _<_, _≤_, _^_}
 use native.Mathlib.Nat.{le-refl, le-antisymm}
 use native.Mathlib.Omega.{arith}
@@ -14,7 +14,7 @@ use Rattle.endian.proofs.Below.{and-right}
 use Rattle.endian.proofs.Signed.{within-signed, within-facts, natural-signed}
 use Rattle.layout.specs.Limits.{maxTasks, minBlocksize, maxBlocksize, maxBlocks, tasksRule, powerOfTwo, blocksizeRule, maxchunksRule}
 use Rattle.layout.specs.Areas.{meta1End}
-use Rattle.meta.specs.Refusals.{firstFailing}
+use Rattle.meta.specs.Refusals.{Test, test, firstFailing}
 use Rattle.meta.specs.Meta1.{formatVersion, fileCount, fileNumber, formatField, filesField, fileNumberField}
 use Rattle.meta.specs.Judge.{is, bigIn, tasksIn, fieldTests}
 
@@ -67,12 +67,17 @@ passed-agree true number x y h = h refl
 passed-agree false number x y h = refl
 
 -- the tests of the fields before the lists, of unsigned readings: b of blocksize and n of ntasks
+abbrev pub unsignedTests : List ℕ → ℕ → Bool → ℕ → ℕ → List Test
+unsignedTests xs len big b n =
+    test 4 (not (is formatVersion (formatField big xs)))
+    ∷ test 5 (not (blocksizeRule (pos b)))
+    ∷ test 6 (not (tasksRule (pos n)))
+    ∷ test 7 (not (is fileCount (filesField big xs) && is fileNumber (fileNumberField big xs)))
+    ∷ test 3 (ltb len (meta1End n))
+    ∷ []
+
 pub fields-unsigned : (xs : List ℕ) (len : ℕ) (big : Bool) (b n : ℕ) → big ≡ bigIn xs → b ≡ numberAt big 4 xs 20 → n ≡ numberAt big 4 xs 24
-    → firstFailing (fieldTests xs len)
-    ≡ cond (not (is formatVersion (formatField big xs))) 4
-    (cond (not (blocksizeRule (pos b))) 5
-    (cond (not (tasksRule (pos n))) 6
-    (cond (not (is fileCount (filesField big xs) && is fileNumber (fileNumberField big xs))) 7 (cond (ltb len (meta1End n)) 3 0))))
+    → firstFailing (fieldTests xs len) ≡ firstFailing (unsignedTests xs len big b n)
 unfolding firstFailing fieldTests tasksIn
 fields-unsigned xs len big b n same at20 at24 =
     rw (sym same, sym at20, sym at24, blocksize-number b, tasks-number n)

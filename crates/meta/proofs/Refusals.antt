@@ -1,4 +1,4 @@
--- What is answered to a list of tests: where one list follows another, where all of its tests pass, and which numbers it can be.
+-- What is answered to a list of tests: by the first of them, where one list follows another, where all pass, and which numbers it can be.
 -- Assumes nothing.
 use mathlib.Core.Path.{_≡_, refl, sym, _∙_}
 use mathlib.Core.Bool.{Bool, true, false, cond}
@@ -20,6 +20,15 @@ Numbered = Each (λ t. 0 < t .number)
 
 abbrev pub Passed : List Test → Type 0
 Passed = Each (λ t. t .fails ≡ false)
+
+-- one test is asked: it fails, or the others are asked
+pub asked-fails : (t : Test) (ts : List Test) → t .fails ≡ true → firstFailing (t ∷ ts) ≡ t .number
+unfolding firstFailing
+asked-fails t ts e = rw e
+
+pub asked-passes : (t : Test) (ts : List Test) → t .fails ≡ false → firstFailing (t ∷ ts) ≡ firstFailing ts
+unfolding firstFailing
+asked-passes t ts e = rw e
 
 -- where the first list passes, the second is asked
 pub first-passes : (xs ys : List Test) → Numbered xs → firstFailing xs ≡ 0 → firstFailing (xs ++ ys) ≡ firstFailing ys

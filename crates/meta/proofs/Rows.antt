@@ -1,6 +1,7 @@
 -- Rows of n numbers one after the other, as the values of META2 stand: where a row stands, that it is within them, and the rule of one row.
 -- Assumes nothing.
-use mathlib.Core.Path.{_≡_, sym, ap}
+use mathlib.Core.Path.{_≡_, sym, ap, _∙_}
+use mathlib.Core.Bool.{Bool}
 use mathlib.Core.List.{List}
 use Prim.Native.Nat.{ℕ, _+_, _*_, _^_, _<_, _≤_}
 use native.Mathlib.Nat.{mul-add, mul-suc, suc-mul, mul-comm, mul-one, mul-assoc, mul-le-mul-left}
@@ -30,10 +31,12 @@ unfolding meta2Length
 meta2-parts n m = simp (mul-add, mul-one, mul-assoc)
 
 -- the rule of a row looks at the row's values alone
-pub row-cong : (n k : ℕ) (holds count : ℕ → ℕ) (value value′ : ℕ → ℤ) → ((i : ℕ) → i < n → value i ≡ value′ i)
-    → allBelow n (λ i. valueRule (ltb k (count i)) (holds i) (value i)) ≡ allBelow n (λ i. valueRule (ltb k (count i)) (holds i) (value′ i))
-row-cong n k holds count value value′ same =
-    all-cong (λ i. valueRule (ltb k (count i)) (holds i) (value i)) (λ i. valueRule (ltb k (count i)) (holds i) (value′ i)) n
+pub row-cong : (n k : ℕ) (holds count : ℕ → ℕ) {value : ℕ → ℤ} (value′ : ℕ → ℤ) {r : Bool}
+    → r ≡ allBelow n (λ i. valueRule (ltb k (count i)) (holds i) (value i)) → ((i : ℕ) → i < n → value i ≡ value′ i)
+    → r ≡ allBelow n (λ i. valueRule (ltb k (count i)) (holds i) (value′ i))
+row-cong n k holds count {value} value′ e same =
+    e
+    ∙ all-cong (λ i. valueRule (ltb k (count i)) (holds i) (value i)) (λ i. valueRule (ltb k (count i)) (holds i) (value′ i)) n
     (λ i l. ap (valueRule (ltb k (count i)) (holds i)) (same i l))
 
 -- what a chunk holds is far below the sign bit

@@ -28,7 +28,7 @@ module _ (h n : ℕ) (f g : ℕ → ℕ) (reads : (i : ℕ) → i < n → g i �
       (λ i m. ap (λ (v : ℕ). within lo hi (pos v)) (reads i m) ∙ sym (within-signed lo hi h (f i) l))
 
   -- where the test holds, each field is what is read
-  pub field-unsigned : (lo hi : ℕ) → hi < 2 ^ h → allBelow n (λ i. within lo hi (pos (g i))) ≡ true
+  field-unsigned : (lo hi : ℕ) → hi < 2 ^ h → allBelow n (λ i. within lo hi (pos (g i))) ≡ true
       → (i : ℕ) → i < n → pos (g i) ≡ signed h (f i)
   field-unsigned lo hi l e i m =
       let w = within-facts lo hi (g i) (all-at (λ j. within lo hi (pos (g j))) n i m e) in
@@ -40,7 +40,7 @@ module _ (h n : ℕ) (f g : ℕ → ℕ) (reads : (i : ℕ) → i < n → g i �
   natural-unsigned lo hi l e i m = ap natural (field-unsigned lo hi l e i m)
 
   -- so does a rule that has a range test first, and then looks at the n fields alone
-  pub rule-unsigned : (lo hi : ℕ) → hi < 2 ^ h → (rest : (ℕ → ℤ) → Bool)
+  rule-unsigned : (lo hi : ℕ) → hi < 2 ^ h → (rest : (ℕ → ℤ) → Bool)
       → ((x y : ℕ → ℤ) → ((i : ℕ) → i < n → x i ≡ y i) → rest x ≡ rest y)
       → (allBelow n (λ i. within lo hi (pos (g i))) && rest (λ i. pos (g i)))
       ≡ (allBelow n (λ i. within lo hi (signed h (f i))) && rest (λ i. signed h (f i)))

@@ -64,10 +64,11 @@ bits-used : (holds bits : ℕ) → holds < 2 ^ 63 → leb bits holds ≡ valueRu
 unfolding valueRule
 bits-used holds bits l = sym (within-signed 0 holds 63 bits l ∙ rw (le-leb 0 bits zero-le))
 
--- so of chunk k + 1 of a task with so many chunks
-pub row-used : (k count holds bits : ℕ) → k < count → holds < 2 ^ 63 → valueRule (ltb k count) holds (signed 63 bits) ≡ leb bits holds
-row-used k count holds bits u l = rw (lt-ltb k count u) (sym (bits-used holds bits l))
+-- so of chunk k + 1 of a task with so many chunks, from the bits and the room that the code has
+pub row-used : (k count : ℕ) {bits number room holds : ℕ} → bits ≡ number → room ≡ holds → k < count → holds < 2 ^ 63
+    → valueRule (ltb k count) holds (signed 63 number) ≡ leb bits room
+row-used k count {number = number} {holds = holds} e d u l = rw (lt-ltb k count u, e, d) (sym (bits-used holds number l))
 
-pub row-unused : (k count holds bits : ℕ) → count ≤ k → bits < 2 ^ 64
-    → valueRule (ltb k count) holds (signed 63 bits) ≡ eqb bits 18446744073709551615
-row-unused k count holds bits u l = rw (le-ltb k count u) (sym (bits-unused holds bits l))
+pub row-unused : (k count holds : ℕ) {bits number : ℕ} → bits ≡ number → count ≤ k → bits < 2 ^ 64
+    → valueRule (ltb k count) holds (signed 63 number) ≡ eqb bits 18446744073709551615
+row-unused k count holds {number = number} e u l = rw (le-ltb k count u, e) (sym (bits-unused holds number (rw (sym e) l)))

@@ -5,7 +5,7 @@ use Prim.Native.Nat.{ℕ, _+_, _≤_, _<_}
 use native.Mathlib.Omega.{arith}
 use lib.Dec.{leb}
 use borrow.Author.Tests.{ltb-true, ltb-false, leb-true, leb-false, eqb-true, eqb-false, not-false}
-use borrow.Author.Tests.{le-leb, lt-leb, eq-eqb, ne-eqb}
+use borrow.Author.Tests.{le-leb, eq-eqb, ne-eqb}
 use Rattle.endian.proofs.Below.{and-left, and-right}
 use Rattle.endian.proofs.Signed.{within-facts, within-holds}
 use Rattle.room.specs.Tally.{Plan, Ask, Tally, Book, fate, afterwards, told}
@@ -30,13 +30,6 @@ either-way P false f g = g refl
 -- the bytes do not go on in the chunk in use: the test and what it says
 stay-false : (u n c : ℕ) → (leb 1 u && leb n c) ≡ false → 0 < u → c < n
 stay-false u n c e k = leb-false n c (rw (le-leb 1 u k) at e)
-
-over-stay : (u n c : ℕ) → (0 < u → c < n) → (leb 1 u && leb n c) ≡ false
-over-stay u n c h = go (leb 1 u) refl
-  where
-    go : (b : Bool) → leb 1 u ≡ b → (b && leb n c) ≡ false
-    go true e = lt-leb n c (h (leb-true 1 u e))
-    go false e = refl
 
 module _ (p : Plan) (a : Ask) (x : Tally) where
   pub view : View p a x (fate p a x)

@@ -62,6 +62,13 @@ pub record Follows (h : Head) (K : ℕ) (b : Book) (st : State) : Type 0 where
   pub cells-are : (i k : ℕ) → i < h .n → k < K → CellIs (holds h i) (b (i + 1)) k (cell (st .table) (valueIndex (h .n) k i))
   pub sane : Sane (planIn h K) b
 
+-- the same by the session's own head and its own K, and what the tally is fed of these
+abbrev pub planAt : State → Plan
+planAt st = planIn (st .session .head) (st .session .planned)
+
+abbrev pub Own : Book → State → Type 0
+Own b st = Follows (st .session .head) (st .session .planned) b st
+
 -- one write does what the tally does
 pub record Step (h : Head) (K : ℕ) (b : Book) (st : State) (q : Request) : Type 0 where
   pub number-is : writeRefusal st q ≡ answerTo (fateIn (planIn h K) b (askOf q))

@@ -104,7 +104,7 @@ pub record Spot (p : Plan) (b : Book) (q : Request) : Type 0 where
   pub full : i + length (q .bytes) ≤ told p b (askOf q) (q .task) .w
 
 module _ (p : Plan) (b : Book) (q : Request) (s : Sane p b) where
-  pub spot-of : answerTo (fateIn p b (askOf q)) ≡ 0 → 0 < length (q .bytes) → Spot p b q
+  spot-of : answerTo (fateIn p b (askOf q)) ≡ 0 → 0 < length (q .bytes) → Spot p b q
   spot-of r some = go (fateIn p b (askOf q)) refl (view p (askOf q) (b (q .task))) r
     where
       same : told p b (askOf q) (q .task) ≡ afterwards (fateIn p b (askOf q)) (length (q .bytes)) (b (q .task))

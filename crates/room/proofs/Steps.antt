@@ -1,41 +1,32 @@
--- A session that follows a book of the tally passes its tests, and each write and each list of writes does to it what the tally does.
--- Assumes nothing.
-use mathlib.Core.Path.{_≡_, refl, sym, ap, ap₂, _∙_, subst, fun-ext}
+-- A session that follows a book of the tally passes its tests, and each write and each list of writes does to it what the tally does, by the
+-- tally's six cases. Assumes nothing.
+use mathlib.Core.Path.{_≡_, refl, sym, ap, ap₂, _∙_, subst}
 use mathlib.Core.Bool.{Bool, true, false, _&&_}
 use mathlib.Core.List.{List, [], _∷_}
-use Prim.Native.Nat.{ℕ, _+_, _*_, _-_, _/_, _%_, _≤_, _<_}
+use Prim.Native.Nat.{ℕ, _+_, _-_, _≤_, _<_}
 use native.Mathlib.Nat.{add-zero}
 use native.Mathlib.Omega.{arith}
-use lib.Arith.{digits-div, digits-mod}
 use lib.Dec.{ltb, leb, eqb}
 use lib.IntN.{ℤ, pos}
-use lib.ListN.{length, set, length-set}
-use lib.Seq.{getD-set-same, getD-set-other}
+use lib.ListN.{length}
 use borrow.Author.Tests.{eqb-true, eqb-false, lt-ltb, le-ltb, le-leb, lt-leb, ltb-true}
 use Rattle.endian.specs.Signed.{natural}
 use Rattle.endian.proofs.Signed.{within-facts, within-holds}
 use Rattle.meta.specs.declared.head.Head.{Head}
 use Rattle.meta.specs.Refusals.{firstFailing}
-use Rattle.meta.specs.Meta2.{valueIndex}
-use Rattle.meta.specs.Heads.{entry, cell, holds, cellsAgree, isTask}
-use Rattle.meta.proofs.Rules.{valueIndex-lt, values-hold}
+use Rattle.meta.specs.Heads.{cellsAgree, isTask}
+use Rattle.meta.proofs.Rules.{values-hold}
 use Rattle.session.specs.Records.{State, sessionTests}
-use Rattle.session.specs.Write.{Request, Spot, begun, inLast, room, spot, target, writeRefusal, stored, afterWrite}
+use Rattle.session.specs.Write.{Request, Spot, begun, inLast, room, spot, target, writeRefusal, stored}
 use Rattle.session.proofs.Sessions.{state-passes}
 use Rattle.session.proofs.Answers.{answer-no-task, answer-empty, answer-long, answer-chunk}
-use Rattle.session.proofs.Outcomes.{refused-keeps, empty-keeps, accepted-stores}
-use Rattle.room.specs.Tally.{Plan, Tally, Book, fateIn, answerTo, afterwards, told, askOf}
+use Rattle.session.proofs.Outcomes.{refused-keeps, empty-keeps}
+use Rattle.room.specs.Tally.{Book, fateIn, answerTo, afterwards, told, askOf}
 use Rattle.room.specs.Tally.{Fate, noTask, empty, tooLong, stays, moves, noRoom}
-use Rattle.room.proofs.Fates.{View, is-noTask, is-empty, is-tooLong, is-stays, is-moves, is-noRoom, view, told-same, told-other}
-use Rattle.room.proofs.Places.{sane-told, laidIn, imageAfter, length-after}
-use Rattle.room.proofs.Follows.{planIn, layout-of, CellIs, Follows, used-fits, Step, Runs, CellsKept}
-
--- a state that follows a book by its own head and its own K, and what the tally is fed of these
-abbrev planAt : State → Plan
-planAt st = planIn (st .session .head) (st .session .planned)
-
-abbrev Own : Book → State → Type 0
-Own b st = Follows (st .session .head) (st .session .planned) b st
+use Rattle.room.proofs.Fates.{View, is-noTask, is-empty, is-tooLong, is-stays, is-moves, is-noRoom, view, told-same}
+use Rattle.room.proofs.Places.{imageAfter}
+use Rattle.room.proofs.Follows.{planIn, CellIs, Follows, planAt, Own, used-fits, Step, Runs, CellsKept}
+use Rattle.room.proofs.Effects.{Did, still, store}
 
 module _ {b : Book} {st : State} (f : Own b st) where
   own-passes : firstFailing (sessionTests st) ≡ 0
@@ -119,177 +110,13 @@ module _ {b : Book} {st : State} (f : Own b st) where
         go true e = let range = within-facts 1 (st .session .head .n) (q .task) e in absurd (out (range .0) (range .1))
         go false e = answer-no-task st q own-passes e
 
-    -- what is shown of the write
-    abbrev Did : Type 0
-    Did =
-        Step (st .session .head) (st .session .planned) b st q × CellsKept (st .session .head) (st .session .planned) b st q
-
-    -- a write that changes nothing
-    quiet : told (planAt st) b (askOf q) (q .task) ≡ b (q .task) → told (planAt st) b (askOf q) ≡ b
-    quiet e = fun-ext (λ t. go t (eqb (q .task) t) refl)
-      where
-        go : (t : ℕ) (v : Bool) → eqb (q .task) t ≡ v → told (planAt st) b (askOf q) t ≡ b t
-        go t true h = subst (λ (d : ℕ). told (planAt st) b (askOf q) d ≡ b d) (eqb-true (q .task) t h) e
-        go t false h = told-other (planAt st) b (askOf q) t (eqb-false _ _ h)
-
-    still : writeRefusal st q ≡ answerTo (fateIn (planAt st) b (askOf q)) → laidIn (planAt st) b (st .image) q ≡ st .image
-        → told (planAt st) b (askOf q) (q .task) ≡ b (q .task) → afterWrite st q ≡ st → Did
-    still number laid same e = (
-      record {
-        number-is = number;
-        image-is = ap (λ (x : State). x .image) e ∙ sym laid;
-        follows = rw (quiet same) (subst (λ (x : State). Follows (st .session .head) (st .session .planned) b x) (sym e) f);
-        table-as-long = ap (λ (x : State). length (x .table)) e;
-        other-cells = λ j l. ap (λ (x : State). cell (x .table) j) e;
-      },
-      λ i k l d. ap (λ (x : State). cell (x .table) (valueIndex (st .session .head .n) k i)) e,
-    )
-
-    -- a write that is stored: of its task the tally says x afterwards
-    module _ (x : Tally) (low : 1 ≤ q .task) (top : q .task ≤ st .session .head .n) (now : told (planAt st) b (askOf q) (q .task) ≡ x)
-        (some : 0 < x .u) (most : x .u ≤ st .session .planned) (chunk-is : spot st q .chunk ≡ x .u)
-        (sum-is : spot st q .from + length (q .bytes) ≡ x .w)
-        (grow : (k : ℕ) (z : ℤ) → (k + 1 ≡ x .u → ⊥) → CellIs (room st q) (b (q .task)) k z → CellIs (room st q) x k z) where
-      -- the cell that is stored
-      cellAt : ℕ
-      cellAt = valueIndex (st .session .head .n) (x .u - 1) (q .task - 1)
-
-      table-is : stored st q .table ≡ set (st .table) cellAt (pos (x .w))
-      unfolding stored cellAt
-      table-is = rw (chunk-is, sum-is)
-
-      counts-is : stored st q .session .counts ≡ set (st .session .counts) (q .task - 1) (x .u)
-      unfolding stored
-      counts-is = rw chunk-is
-
-      cellAt-lt : cellAt < st .session .head .n * st .session .planned
-      unfolding cellAt
-      cellAt-lt = valueIndex-lt (st .session .head .n) (st .session .planned) (x .u - 1) (q .task - 1) (omega arith) (omega arith)
-
-      other-index : (j : ℕ) → (j ≡ cellAt → ⊥) → cell (stored st q .table) j ≡ cell (st .table) j
-      other-index j d = rw table-is (getD-set-other (st .table) cellAt j (pos (x .w)) (pos 0) d)
-
-      other-cell : (i k : ℕ) → i < st .session .head .n → ((k ≡ x .u - 1) × (i ≡ q .task - 1) → ⊥)
-          → cell (stored st q .table) (valueIndex (st .session .head .n) k i) ≡ cell (st .table) (valueIndex (st .session .head .n) k i)
-      unfolding cellAt
-      other-cell i k h d =
-          let n : ℕ = st .session .head .n in
-          let m : q .task - 1 < n = omega arith in
-          other-index (valueIndex n k i)
-          (λ e.
-          d (
-            sym (digits-div k h) ∙ ap (λ (j : ℕ). j / n) e ∙ digits-div (x .u - 1) m,
-            sym (digits-mod k h) ∙ ap (λ (j : ℕ). j % n) e ∙ digits-mod (x .u - 1) m,
-          ))
-
-      same-index : (i k : ℕ) → i ≡ q .task - 1 → k ≡ x .u - 1 → valueIndex (st .session .head .n) k i ≡ cellAt
-      unfolding cellAt
-      same-index i k e d = rw (e, d)
-
-      last-chunk : (i k : ℕ) → i ≡ q .task - 1 → k ≡ x .u - 1 → k + 1 ≡ told (planAt st) b (askOf q) (i + 1) .u
-      last-chunk i k e d =
-          let task : i + 1 ≡ q .task = omega arith in
-          rw (task, now) (omega arith)
-
-      other-tally : (i : ℕ) → (i ≡ q .task - 1 → ⊥) → told (planAt st) b (askOf q) (i + 1) ≡ b (i + 1)
-      other-tally i d = told-other (planAt st) b (askOf q) (i + 1) (λ e. d (omega arith))
-
-      new-cells : (i k : ℕ) → i < st .session .head .n → k < st .session .planned
-          → CellIs (holds (st .session .head) i) (told (planAt st) b (askOf q) (i + 1)) k
-          (cell (stored st q .table) (valueIndex (st .session .head .n) k i))
-      unfolding room
-      new-cells i k h l = go (eqb i (q .task - 1)) refl (eqb (k + 1) (x .u)) refl
-        where
-          go : (v : Bool) → eqb i (q .task - 1) ≡ v → (w : Bool) → eqb (k + 1) (x .u) ≡ w
-              → CellIs (holds (st .session .head) i) (told (planAt st) b (askOf q) (i + 1)) k
-              (cell (stored st q .table) (valueIndex (st .session .head .n) k i))
-          go false e w d = rw (other-tally i (eqb-false _ _ e), other-cell i k h (λ y. eqb-false _ _ e (y .1))) (f .cells-are i k h l)
-          go true e false d =
-              let at : i ≡ q .task - 1 = eqb-true _ _ e in
-              let task : q .task - 1 + 1 ≡ q .task = omega arith in
-              let past : k + 1 ≡ x .u → ⊥ = eqb-false _ _ d in
-              rw (other-cell i k h (λ y. past (omega (arith, y .0))), at, task, now)
-              (grow k _ past (rw (at, task) at (f .cells-are i k h l)))
-          go true e true d =
-              let at : i ≡ q .task - 1 = eqb-true _ _ e in
-              let task : q .task - 1 + 1 ≡ q .task = omega arith in
-              let last : k + 1 ≡ x .u = eqb-true _ _ d in
-              let here : valueIndex (st .session .head .n) k i ≡ cellAt = same-index i k at (omega arith) in
-              let there : cellAt < length (st .table) = omega (arith, cellAt-lt, f .table-long) in
-              rw (here, table-is, getD-set-same (st .table) cellAt (pos (x .w)) (pos 0) there, at, task, now)
-              (record { used = λ y. absurd (omega arith); last = λ _. refl; none = λ y. absurd (omega arith) })
-
-      new-counts : (i : ℕ) → i < st .session .head .n → entry (stored st q .session .counts) i ≡ told (planAt st) b (askOf q) (i + 1) .u
-      new-counts i h = go (eqb i (q .task - 1)) refl
-        where
-          go : (v : Bool) → eqb i (q .task - 1) ≡ v → entry (stored st q .session .counts) i ≡ told (planAt st) b (askOf q) (i + 1) .u
-          go true e =
-              let at : i ≡ q .task - 1 = eqb-true _ _ e in
-              let task : q .task - 1 + 1 ≡ q .task = omega arith in
-              rw (counts-is, at, task, now)
-              (getD-set-same (st .session .counts) (q .task - 1) (x .u) 0 (omega (arith, f .entries)))
-          go false e =
-              rw (counts-is, other-tally i (eqb-false _ _ e))
-              (getD-set-other (st .session .counts) (q .task - 1) i (x .u) 0 (eqb-false _ _ e) ∙ f .counts-are i h)
-
-      head-same : stored st q .session .head ≡ st .session .head
-      unfolding stored
-      head-same = refl
-
-      planned-same : stored st q .session .planned ≡ st .session .planned
-      unfolding stored
-      planned-same = refl
-
-      closed-same : stored st q .session .closed ≡ st .session .closed
-      unfolding stored
-      closed-same = refl
-
-      stored-follows : length (stored st q .image) ≡ length (st .image)
-          → Follows (st .session .head) (st .session .planned) (told (planAt st) b (askOf q)) (stored st q)
-      stored-follows long =
-          record {
-            head-is = head-same;
-            planned-is = planned-same;
-            unmarked = closed-same ∙ f .unmarked;
-            sound = f .sound;
-            some = f .some;
-            few = f .few;
-            entries = rw (counts-is, length-set) (f .entries);
-            image-long = rw long (f .image-long);
-            table-long = rw (table-is, length-set) (f .table-long);
-            counts-are = new-counts;
-            cells-are = new-cells;
-            sane = sane-told (planAt st) b (askOf q) (f .sane);
-          }
-
-      store : writeRefusal st q ≡ 0 → answerTo (fateIn (planAt st) b (askOf q)) ≡ 0 → 0 < length (q .bytes)
-          → stored st q .image ≡ laidIn (planAt st) b (st .image) q → Did
-      store number zero bytes image =
-          let e = accepted-stores st q number bytes in
-          let lo = layout-of (st .session .head) (st .session .planned) (f .sound) in
-          let long : length (stored st q .image) ≡ length (st .image) =
-          ap length image ∙ length-after _ _ _ lo (q ∷ []) b (st .image) (f .image-long) (f .sane) in (
-            record {
-              number-is = number ∙ sym zero;
-              image-is = ap (λ (x : State). x .image) e ∙ image;
-              follows =
-                  subst (λ (x : State). Follows (st .session .head) (st .session .planned) (told (planAt st) b (askOf q)) x) (sym e)
-                  (stored-follows long);
-              table-as-long = ap (λ (x : State). length (x .table)) e ∙ rw table-is (length-set (st .table) cellAt (pos (x .w)));
-              other-cells = λ j l. ap (λ (x : State). cell (x .table) j) e ∙ other-index j (λ z. omega (arith, cellAt-lt));
-            },
-            λ i k l d.
-                ap (λ (x : State). cell (x .table) (valueIndex (st .session .head .n) k i)) e
-                ∙ other-cell i k l (λ y. d (omega (arith, y .1)) (last-chunk i k (y .1) (y .0))),
-          )
-
     -- what was the last chunk's cell is a used chunk's cell after the next chunk has begun
     used-before : (k : ℕ) (z : ℤ) → CellIs (room st q) (b (q .task)) k z
         → k + 1 < b (q .task) .u + 1 → (v : Bool) → eqb (k + 1) (b (q .task) .u) ≡ v → (v : ℕ) × (z ≡ pos v) × (v ≤ room st q)
     used-before k z c l true e = (b (q .task) .w, c .last (eqb-true _ _ e), last-room)
     used-before k z c l false e = c .used (omega (arith, eqb-false))
 
-    own-step : Did
+    own-step : Did b st q
     unfolding room stored target
     own-step = go (fateIn (planAt st) b (askOf q)) refl (view (planAt st) (askOf q) (b (q .task)))
       where
@@ -298,27 +125,28 @@ module _ {b : Book} {st : State} (f : Own b st) where
         now z e =
             told-same (planAt st) b (askOf q) (q .task) refl ∙ ap (λ (z : Fate). afterwards z (length (q .bytes)) (b (q .task))) e
 
-        go : (z : Fate) → fateIn (planAt st) b (askOf q) ≡ z → View (planAt st) (askOf q) (b (q .task)) z → Did
+        go : (z : Fate) → fateIn (planAt st) b (askOf q) ≡ z → View (planAt st) (askOf q) (b (q .task)) z → Did b st q
         go noTask e (is-noTask out) =
             let number = no-task out in
-            still (number ∙ sym (ap answerTo e)) (rw e) (now noTask e) (refused-keeps st q (omega arith))
-        go empty e (is-empty l h none) = still (answer-empty st q own-passes (is-task l h) none ∙ sym (ap answerTo e)) (rw e) (now empty e) (empty-keeps st q none)
+            still f q (number ∙ sym (ap answerTo e)) (rw e) (now noTask e) (refused-keeps st q (omega arith))
+        go empty e (is-empty l h none) =
+            still f q (answer-empty st q own-passes (is-task l h) none ∙ sym (ap answerTo e)) (rw e) (now empty e) (empty-keeps st q none)
         go tooLong e (is-tooLong l h some long) =
             let number = answer-long st q own-passes (is-task l h) long in
-            still (number ∙ sym (ap answerTo e)) (rw e) (now tooLong e) (refused-keeps st q (omega arith))
+            still f q (number ∙ sym (ap answerTo e)) (rw e) (now tooLong e) (refused-keeps st q (omega arith))
         go stays e (is-stays l h some k fits) =
             let at = spot-stays l h k fits in
             let c : spot st q .chunk ≡ b (q .task) .u = ap (λ (x : Spot). x .chunk) at in
             let d : spot st q .from ≡ b (q .task) .w = ap (λ (x : Spot). x .from) at in
             let most : b (q .task) .u ≤ st .session .planned = f .sane (q .task) .1 .most in
-            store (record { u = b (q .task) .u; w = b (q .task) .w + length (q .bytes) }) l h (now stays e) k most c (omega arith)
+            store f q (record { u = b (q .task) .u; w = b (q .task) .w + length (q .bytes) }) l h (now stays e) k most c (omega arith)
             (λ j z n x. record { used = x .used; last = λ y. absurd (n y); none = x .none })
             (chunk-there l h some (omega arith) (omega arith)) (ap answerTo e) some (rw (e, c, d))
         go moves e (is-moves l h some fits k more) =
             let at = spot-moves l h more in
             let c : spot st q .chunk ≡ b (q .task) .u + 1 = ap (λ (x : Spot). x .chunk) at in
             let d : spot st q .from ≡ 0 = ap (λ (x : Spot). x .from) at in
-            store (record { u = b (q .task) .u + 1; w = length (q .bytes) }) l h (now moves e) (omega arith) (omega arith) c (omega arith)
+            store f q (record { u = b (q .task) .u + 1; w = length (q .bytes) }) l h (now moves e) (omega arith) (omega arith) c (omega arith)
             (λ j z n x.
             record {
               used = λ y. used-before j z x y (eqb (j + 1) (b (q .task) .u)) refl;
@@ -329,7 +157,7 @@ module _ {b : Book} {st : State} (f : Own b st) where
         go noRoom e (is-noRoom l h some fits k more) =
             let c : spot st q .chunk ≡ b (q .task) .u + 1 = ap (λ (x : Spot). x .chunk) (spot-moves l h more) in
             let number = no-chunk l h some fits (omega arith) in
-            still (number ∙ sym (ap answerTo e)) (rw e) (now noRoom e) (refused-keeps st q (omega arith))
+            still f q (number ∙ sym (ap answerTo e)) (rw e) (now noRoom e) (refused-keeps st q (omega arith))
 
 -- ---- for any head and K that are the state's
 

@@ -100,7 +100,7 @@ module _ (h : Head) (K M : ℕ) (lo : Layout (h .blocksize) M (planIn h K)) wher
     as-long : length (laidIn fed b (st .image) q) ≡ length (st .image)
     as-long = length-after _ _ _ lo (q ∷ []) b (st .image) long (f .sane)
 
-    pub still-long : M ≤ length (afterWrite st q .image)
+    still-long : M ≤ length (afterWrite st q .image)
     still-long = rw (step f q .image-is, as-long) long
 
     -- a chunk that has been begun, where its cell is as it was
@@ -185,7 +185,7 @@ module _ (h : Head) (K M : ℕ) (lo : Layout (h .blocksize) M (planIn h K)) wher
         ∙ rw (told-other fed b (askOf q) (i + 1) d) (join-cong _ _ (b (i + 1) .u) (λ k m. chunk-same i k l m (λ e. absurd (d e))))
         ∙ sym (stream-is f i l)
 
-    pub stream-step : (i : ℕ) → i < h .n
+    stream-step : (i : ℕ) → i < h .n
         → streamIn (afterWrite st q) i ≡ streamIn st i ++ cond (eqb (q .task) (i + 1) && eqb (writeRefusal st q) 0) (q .bytes) []
     stream-step i l = go (eqb (writeRefusal st q) 0) refl (eqb (length (q .bytes)) 0) refl (eqb (q .task) (i + 1)) refl
       where

@@ -1,17 +1,7 @@
 -- `meta1` meets its contract: four stores, each where the last ended.
-use Prim.Native.Nat.{ℕ, _+_, _-_, _*_}
-use mathlib.Core.Path.{_≡_, ap, _∙_}
 use native.Mathlib.Omega.{arith}
 use borrow.Author.Needs.{needs}
-use lib.IntN.{pos}
-use lib.ListN.{replicate, length-replicate}
-use Rattle.endian.specs.Splice.{splice}
-use Rattle.endian.proofs.Signed.{length-numbers}
-use Rattle.endian.proofs.Splice.{put-first, put-then}
-use Rattle.layout.specs.Areas.{dataStart}
-use Rattle.meta.specs.Heads.{entry, isBig}
-use Rattle.meta.specs.Meta1.{lastAt}
-use Rattle.emit.proofs.Parts.{length-fixed, opening-fits, opening-parts}
+use Rattle.emit.proofs.Parts.{opening-fits, opening-stored}
 use Rattle.emit.proofs.meta1.Statement.{statement}
 use Rattle.emit.proofs.meta1.Tie as tie
 
@@ -70,25 +60,12 @@ returns c =
     let first = second .before .before .before .before .before .before .before in
     let asked = first .before .before in
     let z = asked .before .before .before in
-    let a = z .args in
-    let h = a .t2 in
-    let xs = a .image .now in
-    let big = isBig h in
-    let fits = opening-fits (h .blocksize) (h .n) (z .pre .0 .0) in
-    let gap = dataStart (h .blocksize) (h .n) - lastAt (h .n) in
-    let rest : asked .data-start .result - (1076 + 8 * h .n + 8 * h .n) ≡ gap = omega (arith, asked .data-start .ensures) in
-    let fixed = put-first xs 0 _ 1076 (length-fixed h big (a .prefix .now) (z .pre .1 .0)) (first .put-fixed .ensures) in
-    let ranks =
-    put-then xs 0 _ _ (8 * h .n) fixed (length-numbers big 8 (h .n) (λ i. pos (entry (h .ranks) i))) (second .put-list .ensures)
-    (omega (arith, z .pre)) in
-    let sizes =
-    put-then xs 0 _ _ (8 * h .n) ranks (length-numbers big 8 (h .n) (λ i. pos (entry (h .sizes) i))) (third .put-list2 .ensures)
-    (omega (arith, z .pre)) in
-    let zeros =
-    fourth .put-zeros .ensures
-    ∙ ap (λ (k : ℕ). splice (third .put-list2 .last .0) (1076 + 8 * h .n + 8 * h .n) (replicate k 0)) rest in
-    put-then xs 0 _ (replicate gap 0) gap sizes (length-replicate gap 0) zeros (omega (arith, z .pre)) .0
-    ∙ ap (splice xs 0) (opening-parts h (a .prefix .now) fits)
+    opening-stored (z .args .t2) (z .args .prefix .now) (z .args .image .now) (z .pre .1 .0) (z .pre .0 .0) (z .pre .1 .1)
+    (asked .data-start .ensures)
+    (first .put-fixed .ensures)
+    (second .put-list .ensures)
+    (third .put-list2 .ensures)
+    (fourth .put-zeros .ensures)
 
 pub meta1-spec : {M : Type 1} → statement M
 meta1-spec =

@@ -1,13 +1,12 @@
 -- `layout::limit::all_different` meets its contract. The loop's invariant: every number passed is a new one. The measure is the numbers
 -- left. Assumes nothing.
 use Prim.Native.Nat.{_≤_, _-_}
-use mathlib.Core.Path.{_≡_, sym, _∙_}
+use mathlib.Core.Path.{_≡_}
 use mathlib.Core.Bool.{true}
 use borrow.Author.Needs.{needs}
-use borrow.Author.Tests.{not-true, not-false}
 use lib.IntN.{pos}
 use lib.ListN.{getD}
-use Rattle.endian.proofs.Below.{all-none, all-more, all-end, all-fails}
+use Rattle.endian.proofs.Below.{test-fails, test-holds, all-none, all-more, all-end, all-fails}
 use Rattle.layout.specs.Limits.{allDifferent}
 use Rattle.layout.proofs.limit.all_different.Statement.{statement}
 use Rattle.layout.proofs.limit.all_different.Tie as tie
@@ -27,7 +26,7 @@ is-new-requires c κs = search needs
 
 returns : tie.Need-returns Inv-loop μ-loop
 unfolding allDifferent
-returns c = all-fails _ (c .before .before .before .loop .i) (search needs) (sym (c .before .is-new .ensures) ∙ not-true _ (c .if1 .taken))
+returns c = all-fails _ (c .before .before .before .loop .i) (search needs) (test-fails (c .before .is-new .ensures) (c .if1 .taken))
 
 add-i : tie.Need-add-i Inv-loop μ-loop
 add-i c = search needs
@@ -40,7 +39,7 @@ unfolding allDifferent
 loop-again c = (
   search needs,
   all-more _ (c .before .before .before .loop .i) (c .before .before .before .loop .inv .1)
-      (sym (c .before .is-new .ensures) ∙ not-false _ (c .if1 .left)),
+      (test-holds (c .before .is-new .ensures) (c .if1 .left)),
 )
 
 returns-2 : tie.Need-returns-2 Inv-loop μ-loop

@@ -1,7 +1,6 @@
 -- `layout::limit::ranks_ok` meets its contract. Assumes nothing.
-use mathlib.Core.Path.{sym, _∙_}
 use borrow.Author.Needs.{needs}
-use borrow.Author.Tests.{not-true, not-false}
+use Rattle.endian.proofs.Below.{test-fails, test-holds}
 use Rattle.layout.specs.Limits.{ranksRule}
 use Rattle.layout.proofs.limit.ranks_ok.Statement.{statement}
 use Rattle.layout.proofs.limit.ranks_ok.Tie as tie
@@ -11,7 +10,7 @@ all-within-requires c κs = search needs
 
 returns : tie.Need-returns
 unfolding ranksRule
-returns c = rw (sym (c .before .all-within .ensures) ∙ not-true _ (c .if1 .taken))
+returns c = rw (test-fails (c .before .all-within .ensures) (c .if1 .taken))
 
 all-different-requires : tie.Need-all-different-requires
 all-different-requires c κs = search needs
@@ -19,7 +18,7 @@ all-different-requires c κs = search needs
 returns-2 : tie.Need-returns-2
 unfolding ranksRule
 returns-2 c =
-    rw (sym (c .before .before .all-within .ensures) ∙ not-false _ (c .before .if1 .left)) (c .all-different .ensures)
+    rw (test-holds (c .before .before .all-within .ensures) (c .before .if1 .left)) (c .all-different .ensures)
 
 pub ranks-ok-spec : {M : Type 1} → statement M
 ranks-ok-spec = tie.close (tie.spec all-within-requires returns all-different-requires returns-2)

@@ -1,22 +1,55 @@
 -- `meta::first::field_refusal` meets its contract: each return, by the tests that led there. Assumes nothing.
-use mathlib.Core.Path.{refl, sym, _∙_}
+use mathlib.Core.Path.{_≡_, refl, ap, sym, _∙_}
+use mathlib.Core.Bool.{not}
+use Prim.Native.Nat.{ℕ}
 use native.Mathlib.Omega.{arith}
+use lib.ListN.{drop}
 use borrow.Author.Needs.{needs}
-use borrow.Author.Tests.{lt-ltb, le-ltb, not-true, not-false}
+use borrow.Author.Tests.{lt-ltb, le-ltb}
+use Rattle.endian.proofs.Below.{test-fails, test-holds}
 use Rattle.endian.specs.Number.{numberAt}
-use Rattle.meta.proofs.Fields.{tasks-facts, fields-unsigned}
+use Rattle.meta.specs.Refusals.{firstFailing}
+use Rattle.meta.specs.Judge.{fieldTests}
+use Rattle.meta.proofs.Refusals.{asked-fails, asked-passes, all-pass}
+use Rattle.meta.proofs.Fields.{tasks-facts, unsignedTests, fields-unsigned}
 use Rattle.meta.proofs.first.field_refusal.Statement.{statement}
 use Rattle.meta.proofs.first.field_refusal.Tie as tie
+
+-- what is left to ask once the first k tests passed
+abbrev Left : tie.Start → ℕ → Type 0
+Left s k =
+    let a = s .args in
+    firstFailing (fieldTests (a .xs .now) (a .len))
+    ≡ firstFailing (drop k (unsignedTests (a .xs .now) (a .len) (a .big) (numberAt (a .big) 4 (a .xs .now) 20) (numberAt (a .big) 4 (a .xs .now) 24)))
+
+left : (s : tie.Start) → Left s 0
+left s = fields-unsigned (s .args .xs .now) (s .args .len) (s .args .big) _ _ (s .pre .0) refl refl
+
+left-1 : (e : tie.Else1) → Left (e .before .before .before) 1
+left-1 e = left (e .before .before .before) ∙ asked-passes _ _ (ap not (sym (e .before .field-is .ensures)) ∙ e .if1 .left)
+
+left-2 : (e : tie.Else2) → Left (e .before .before .before .before .before .before) 2
+left-2 e =
+    left-1 (e .before .before .before)
+    ∙ asked-passes _ _ (rw (sym (e .before .before .get-u32 .ensures), sym (e .before .blocksize-ok .ensures)) (e .if2 .left))
+
+left-3 : (e : tie.Else3) → Left (e .before .before .before .before .before .before .before .before .before) 3
+left-3 e =
+    left-2 (e .before .before .before)
+    ∙ asked-passes _ _ (rw (sym (e .before .before .get-u322 .ensures), sym (e .before .tasks-ok .ensures)) (e .if3 .left))
+
+left-4 : (e : tie.Else5) → Left (e .before .before .before .before .before .before .before .before .before .before .before .before .before) 4
+left-4 e =
+    let d = e .before .before in
+    left-3 (d .before .before)
+    ∙ asked-passes _ _
+    (rw (test-holds (d .before .field-is2 .ensures) (d .if4 .left), sym (e .before .field-is3 .ensures)) (e .if5 .left))
 
 field-is-requires : tie.Need-field-is-requires
 field-is-requires c κs = (omega arith, omega arith)
 
 returns : tie.Need-returns
-returns c =
-    let s = c .before .before .before in
-    let a = s .args in
-    sym (fields-unsigned (a .xs .now) (a .len) (a .big) (numberAt (a .big) 4 (a .xs .now) 20) (numberAt (a .big) 4 (a .xs .now) 24) (s .pre .0) refl refl
-    ∙ simp (sym (c .before .field-is .ensures) ∙ not-true _ (c .if1 .taken)))
+returns c = sym (left (c .before .before .before) ∙ asked-fails _ _ (ap not (sym (c .before .field-is .ensures)) ∙ c .if1 .taken))
 
 get-u32-requires : tie.Need-get-u32-requires
 get-u32-requires c κs = omega arith
@@ -26,11 +59,8 @@ blocksize-ok-requires c κs = search needs
 
 returns-2 : tie.Need-returns-2
 returns-2 c =
-    let s1 = c .before .before .before in
-    let s = s1 .before .before .before in
-    let a = s .args in
-    sym (fields-unsigned (a .xs .now) (a .len) (a .big) (c .before .before .get-u32 .result) (numberAt (a .big) 4 (a .xs .now) 24) (s .pre .0) (c .before .before .get-u32 .ensures) refl
-    ∙ simp (sym (s1 .before .field-is .ensures) ∙ not-false _ (s1 .if1 .left), sym (c .before .blocksize-ok .ensures) ∙ not-true _ (c .if2 .taken)))
+    sym (left-1 (c .before .before .before)
+    ∙ asked-fails _ _ (rw (sym (c .before .before .get-u32 .ensures), sym (c .before .blocksize-ok .ensures)) (c .if2 .taken)))
 
 get-u32-requires-2 : tie.Need-get-u32-requires-2
 get-u32-requires-2 c κs = omega arith
@@ -40,68 +70,43 @@ tasks-ok-requires c κs = search needs
 
 returns-3 : tie.Need-returns-3
 returns-3 c =
-    let s2 = c .before .before .before in
-    let s1 = s2 .before .before .before in
-    let s = s1 .before .before .before in
-    let a = s .args in
-    sym (fields-unsigned (a .xs .now) (a .len) (a .big) (s2 .before .before .get-u32 .result) (c .before .before .get-u322 .result) (s .pre .0) (s2 .before .before .get-u32 .ensures) (c .before .before .get-u322 .ensures)
-    ∙ simp (sym (s1 .before .field-is .ensures) ∙ not-false _ (s1 .if1 .left), sym (s2 .before .blocksize-ok .ensures) ∙ not-false _ (s2 .if2 .left), sym (c .before .tasks-ok .ensures) ∙ not-true _ (c .if3 .taken)))
+    sym (left-2 (c .before .before .before)
+    ∙ asked-fails _ _ (rw (sym (c .before .before .get-u322 .ensures), sym (c .before .tasks-ok .ensures)) (c .if3 .taken)))
 
 field-is-requires-2 : tie.Need-field-is-requires-2
 field-is-requires-2 c κs = (omega arith, omega arith)
 
 returns-4 : tie.Need-returns-4
 returns-4 c =
-    let s3 = c .before .before in
-    let s2 = s3 .before .before .before in
-    let s1 = s2 .before .before .before in
-    let s = s1 .before .before .before in
-    let a = s .args in
-    sym (fields-unsigned (a .xs .now) (a .len) (a .big) (s2 .before .before .get-u32 .result) (s3 .before .before .get-u322 .result) (s .pre .0) (s2 .before .before .get-u32 .ensures) (s3 .before .before .get-u322 .ensures)
-    ∙ simp (sym (s1 .before .field-is .ensures) ∙ not-false _ (s1 .if1 .left), sym (s2 .before .blocksize-ok .ensures) ∙ not-false _ (s2 .if2 .left), sym (s3 .before .tasks-ok .ensures) ∙ not-false _ (s3 .if3 .left), sym (c .before .field-is2 .ensures) ∙ not-true _ (c .if4 .taken)))
+    sym (left-3 (c .before .before)
+    ∙ asked-fails _ _ (rw (test-fails (c .before .field-is2 .ensures) (c .if4 .taken))))
 
 field-is-requires-3 : tie.Need-field-is-requires-3
 field-is-requires-3 c κs = (omega arith, omega arith)
 
 returns-5 : tie.Need-returns-5
 returns-5 c =
-    let s4 = c .before .before in
-    let s3 = s4 .before .before in
-    let s2 = s3 .before .before .before in
-    let s1 = s2 .before .before .before in
-    let s = s1 .before .before .before in
-    let a = s .args in
-    sym (fields-unsigned (a .xs .now) (a .len) (a .big) (s2 .before .before .get-u32 .result) (s3 .before .before .get-u322 .result) (s .pre .0) (s2 .before .before .get-u32 .ensures) (s3 .before .before .get-u322 .ensures)
-    ∙ simp (sym (s1 .before .field-is .ensures) ∙ not-false _ (s1 .if1 .left), sym (s2 .before .blocksize-ok .ensures) ∙ not-false _ (s2 .if2 .left), sym (s3 .before .tasks-ok .ensures) ∙ not-false _ (s3 .if3 .left), sym (s4 .before .field-is2 .ensures) ∙ not-false _ (s4 .if4 .left), sym (c .before .field-is3 .ensures) ∙ not-true _ (c .if5 .taken)))
+    let d = c .before .before in
+    sym (left-3 (d .before .before)
+    ∙ asked-fails _ _
+    (rw (test-holds (d .before .field-is2 .ensures) (d .if4 .left), sym (c .before .field-is3 .ensures)) (c .if5 .taken)))
 
 meta1-end-requires : tie.Need-meta1-end-requires
 meta1-end-requires c κs =
     let s3 = c .before .before .before .before in
-    tasks-facts (s3 .before .before .get-u322 .result) (sym (s3 .before .tasks-ok .ensures) ∙ not-false _ (s3 .if3 .left)) .1
+    tasks-facts (s3 .before .before .get-u322 .result) (test-holds (s3 .before .tasks-ok .ensures) (s3 .if3 .left)) .1
 
 returns-6 : tie.Need-returns-6
 returns-6 c =
-    let s5 = c .before .before in
-    let s4 = s5 .before .before in
-    let s3 = s4 .before .before in
-    let s2 = s3 .before .before .before in
-    let s1 = s2 .before .before .before in
-    let s = s1 .before .before .before in
-    let a = s .args in
-    sym (fields-unsigned (a .xs .now) (a .len) (a .big) (s2 .before .before .get-u32 .result) (s3 .before .before .get-u322 .result) (s .pre .0) (s2 .before .before .get-u32 .ensures) (s3 .before .before .get-u322 .ensures)
-    ∙ simp (sym (s1 .before .field-is .ensures) ∙ not-false _ (s1 .if1 .left), sym (s2 .before .blocksize-ok .ensures) ∙ not-false _ (s2 .if2 .left), sym (s3 .before .tasks-ok .ensures) ∙ not-false _ (s3 .if3 .left), sym (s4 .before .field-is2 .ensures) ∙ not-false _ (s4 .if4 .left), sym (s5 .before .field-is3 .ensures) ∙ not-false _ (s5 .if5 .left), sym (c .before .meta1-end .ensures), lt-ltb (a .len) (c .before .meta1-end .result) (c .if6 .taken)))
+    let n = c .before .before .before .before .before .before .before .before .get-u322 in
+    sym (left-4 (c .before .before)
+    ∙ asked-fails _ _ (rw (sym (n .ensures), sym (c .before .meta1-end .ensures)) (lt-ltb _ _ (c .if6 .taken))))
 
 returns-7 : tie.Need-returns-7
 returns-7 c =
-    let s5 = c .before .before in
-    let s4 = s5 .before .before in
-    let s3 = s4 .before .before in
-    let s2 = s3 .before .before .before in
-    let s1 = s2 .before .before .before in
-    let s = s1 .before .before .before in
-    let a = s .args in
-    sym (fields-unsigned (a .xs .now) (a .len) (a .big) (s2 .before .before .get-u32 .result) (s3 .before .before .get-u322 .result) (s .pre .0) (s2 .before .before .get-u32 .ensures) (s3 .before .before .get-u322 .ensures)
-    ∙ simp (sym (s1 .before .field-is .ensures) ∙ not-false _ (s1 .if1 .left), sym (s2 .before .blocksize-ok .ensures) ∙ not-false _ (s2 .if2 .left), sym (s3 .before .tasks-ok .ensures) ∙ not-false _ (s3 .if3 .left), sym (s4 .before .field-is2 .ensures) ∙ not-false _ (s4 .if4 .left), sym (s5 .before .field-is3 .ensures) ∙ not-false _ (s5 .if5 .left), sym (c .before .meta1-end .ensures), le-ltb (a .len) (c .before .meta1-end .result) (c .if6 .left)))
+    let n = c .before .before .before .before .before .before .before .before .get-u322 in
+    sym (left-4 (c .before .before)
+    ∙ all-pass _ (rw (sym (n .ensures), sym (c .before .meta1-end .ensures)) (le-ltb _ _ (c .if6 .left)), tt))
 
 pub field-refusal-spec : {M : Type 1} → statement M
 field-refusal-spec =

@@ -1,17 +1,16 @@
 -- `meta::second::cell_row_ok` meets its contract. The loop's invariant: every cell passed keeps its rule. The measure is the tasks left.
 -- Assumes nothing.
 use Prim.Native.Nat.{_+_, _≤_, _-_}
-use mathlib.Core.Path.{_≡_, sym, _∙_}
+use mathlib.Core.Path.{_≡_, _∙_}
 use mathlib.Core.Bool.{true}
 use borrow.Author.Needs.{needs, sfits-of}
-use borrow.Author.Tests.{not-true, not-false}
 use lib.Dec.{ltb}
 use lib.IntN.{pos}
 use lib.ListN.{getD}
 use mir.Facts.{toZ-ofZ}
 use mir.Syntax.{w64}
 use Rattle.endian.specs.Below.{allBelow}
-use Rattle.endian.proofs.Below.{all-none, all-more, all-end, all-fails}
+use Rattle.endian.proofs.Below.{test-fails, test-holds, all-none, all-more, all-end, all-fails}
 use Rattle.layout.specs.Areas.{capacity}
 use Rattle.layout.proofs.Bounds.{sound-size}
 use Rattle.meta.specs.Meta2.{valueRule}
@@ -73,7 +72,7 @@ tested c =
 returns : tie.Need-returns Inv-loop μ-loop
 returns c =
     all-fails _ (c .before .before .before .before .before .before .before .loop .i) (search needs)
-    (sym (tested (c .before)) ∙ not-true _ (c .if1 .taken))
+    (test-fails (tested (c .before)) (c .if1 .taken))
 
 add-i : tie.Need-add-i Inv-loop μ-loop
 add-i c = search needs
@@ -84,7 +83,7 @@ loop-less c = search needs
 loop-again : tie.Need-loop-again Inv-loop μ-loop
 loop-again c =
     let l = c .before .before .before .before .before .before .before .loop in
-    (search needs, all-more _ _ (l .inv .1) (sym (tested (c .before)) ∙ not-false _ (c .if1 .left)))
+    (search needs, all-more _ _ (l .inv .1) (test-holds (tested (c .before)) (c .if1 .left)))
 
 returns-2 : tie.Need-returns-2 Inv-loop μ-loop
 returns-2 c = all-end _ (search needs) (search needs) (c .before .loop .inv .1)

@@ -1,14 +1,13 @@
 -- `meta::second::cells_ok` meets its contract. The loop's invariant: every row passed keeps its rule, and `at` is where row k starts. The
 -- measure is the rows left. Assumes nothing.
 use Prim.Native.Nat.{_*_, _≤_, _-_}
-use mathlib.Core.Path.{_≡_, sym, ap, _∙_}
+use mathlib.Core.Path.{_≡_, ap, _∙_}
 use mathlib.Core.Bool.{true}
 use native.Mathlib.Omega.{arith}
 use borrow.Author.Needs.{needs}
-use borrow.Author.Tests.{not-true, not-false}
 use lib.Dec.{ltb}
 use Rattle.endian.specs.Below.{allBelow}
-use Rattle.endian.proofs.Below.{all-none, all-more, all-end, all-fails}
+use Rattle.endian.proofs.Below.{test-fails, test-holds, all-none, all-more, all-end, all-fails}
 use Rattle.meta.specs.Meta2.{valueIndex, valueRule, valuesRule}
 use Rattle.meta.specs.Heads.{entry, cell, holds, cellsAgree}
 use Rattle.meta.proofs.Rows.{row-in, row-next, row-cong}
@@ -51,14 +50,15 @@ unfolding holds
 tested c =
     let a = c .before .before .before .before .before .before .before .args in
     let l = c .before .before .before .before .before .loop in
-    c .cell-row-ok .ensures
-    ∙ row-cong (a .t2 .n) (l .k) (holds (a .t2)) (entry (a .counts .now)) _ _ (λ i h. ap (cell (a .table .now)) (omega arith))
+    row-cong (a .t2 .n) (l .k) (holds (a .t2)) (entry (a .counts .now)) (λ i. cell (a .table .now) (valueIndex (a .t2 .n) (l .k) i))
+    (c .cell-row-ok .ensures)
+    (λ i h. ap (cell (a .table .now)) (omega arith))
 
 returns : tie.Need-returns Inv-loop μ-loop
 unfolding cellsAgree valuesRule
 returns c =
     all-fails _ (c .before .before .before .before .before .before .loop .k) (search needs)
-    (sym (tested (c .before)) ∙ not-true _ (c .if1 .taken))
+    (test-fails (tested (c .before)) (c .if1 .taken))
 
 add-at : tie.Need-add-at Inv-loop μ-loop
 add-at c =
@@ -78,7 +78,7 @@ loop-again c =
     let l = c .before .before .before .before .before .before .loop in (
       search needs,
       omega (arith, row-next (c .before .before .before .before .before .before .before .before .args .t2 .n) (l .k)),
-      all-more _ _ (l .inv .2) (sym (tested (c .before)) ∙ not-false _ (c .if1 .left)),
+      all-more _ _ (l .inv .2) (test-holds (tested (c .before)) (c .if1 .left)),
     )
 
 returns-2 : tie.Need-returns-2 Inv-loop μ-loop

@@ -1,16 +1,15 @@
 -- `meta::second::row_ok` meets its contract. The loop's invariant: every value passed keeps its rule. The measure is the tasks left.
 -- Assumes nothing.
-use Prim.Native.Nat.{_+_, _*_, _≤_, _-_}
-use mathlib.Core.Path.{_≡_, sym, _∙_}
-use mathlib.Core.Bool.{true}
+use Prim.Native.Nat.{_+_, _*_, _≤_, _<_, _-_}
+use mathlib.Core.Path.{_≡_, _∙_}
+use mathlib.Core.Bool.{Bool, true}
 use mathlib.Core.Logic.{⊎-elim}
 use native.Mathlib.Omega.{arith}
 use borrow.Author.Needs.{needs}
 use borrow.Author.Tests.{le-leb, lt-leb, eq-eqb, ne-eqb}
-use lib.Dec.{ltb}
+use lib.Dec.{ltb, leb, eqb}
 use lib.ListN.{getD}
 use Rattle.endian.specs.Below.{allBelow}
-use Rattle.endian.specs.Number.{numberAt}
 use Rattle.endian.specs.Signed.{signedAt}
 use Rattle.endian.proofs.Below.{all-none, all-more, all-end, all-fails}
 use Rattle.layout.specs.Areas.{capacity}
@@ -58,31 +57,41 @@ mul-if1 c = search needs
 shared-slice-read-if1 : tie.Need-shared-slice-read-if1 Inv-loop μ-loop
 shared-slice-read-if1 c = search needs
 
+-- the rule of the value at hand
+abbrev Rule : tie.After-get-u64 Inv-loop μ-loop → Bool
+Rule g =
+    let a = g .before .before .before .before .before .before .before .before .args in
+    let i = g .before .before .before .before .loop .i in
+    valueRule (ltb (a .k) (getD (a .counts .now) i 0)) (capacity (a .blocksize) (getD (a .sizes .now) i 0))
+    (signedAt (a .big) 8 (a .part .now) (a .at + 8 * i))
+
+-- it is what the code tests, of a chunk that is used and of one that is not
+used : (g : tie.After-get-u64 Inv-loop μ-loop)
+    → let a = g .before .before .before .before .before .before .before .before .args in
+    a .k < getD (a .counts .now) (g .before .before .before .before .loop .i) 0
+    → Rule g ≡ leb (g .get-u64 .result) (g .before .chunk-holds .result)
+used g u =
+    let p = g .before .before .before .before .before .before .before .before .pre .0 in
+    row-used _ _ (g .get-u64 .ensures) (g .before .chunk-holds .ensures) u
+    (holds-small p (g .before .before .before .before .loop .i) (g .before .before .before .loop-test .taken))
+
+unused : (g : tie.After-get-u64 Inv-loop μ-loop)
+    → let a = g .before .before .before .before .before .before .before .before .args in
+    getD (a .counts .now) (g .before .before .before .before .loop .i) 0 ≤ a .k
+    → Rule g ≡ eqb (g .get-u64 .result) 18446744073709551615
+unused g u = row-unused _ _ _ (g .get-u64 .ensures) u (omega (arith, g .get-u64 .ok))
+
 returns : tie.Need-returns Inv-loop μ-loop
 returns c =
     let g = c .before .before .before in
-    let h = g .before in
-    let s = h .before .before .before .before .before .before .before in
-    let i = h .before .before .before .loop .i in
-    let number = numberAt (s .args .big) 8 (s .args .part .now) (s .args .at + 8 * i) in
-    let holds = capacity (s .args .blocksize) (getD (s .args .sizes .now) i 0) in
-    let count = getD (s .args .counts .now) i 0 in
-    all-fails _ i (h .before .before .loop-test .taken)
-    (row-used (s .args .k) count holds number (c .before .if1 .taken) (holds-small (s .pre .0) i (h .before .before .loop-test .taken))
-    ∙ lt-leb number holds (rw (h .chunk-holds .ensures, g .get-u64 .ensures) at (c .if2 .taken)))
+    all-fails _ (g .before .before .before .before .loop .i) (g .before .before .before .loop-test .taken)
+    (used g (c .before .if1 .taken) ∙ lt-leb _ _ (c .if2 .taken))
 
 returns-2 : tie.Need-returns-2 Inv-loop μ-loop
 returns-2 c =
     let g = c .before .before .before in
-    let h = g .before in
-    let s = h .before .before .before .before .before .before .before in
-    let i = h .before .before .before .loop .i in
-    let number = numberAt (s .args .big) 8 (s .args .part .now) (s .args .at + 8 * i) in
-    let holds = capacity (s .args .blocksize) (getD (s .args .sizes .now) i 0) in
-    let count = getD (s .args .counts .now) i 0 in
-    all-fails _ i (h .before .before .loop-test .taken)
-    (row-unused (s .args .k) count holds number (c .before .if1 .left) (omega (arith, g .get-u64 .ensures, g .get-u64 .ok))
-    ∙ ne-eqb number 18446744073709551615 (λ e. c .if3 .taken (g .get-u64 .ensures ∙ e)))
+    all-fails _ (g .before .before .before .before .loop .i) (g .before .before .before .loop-test .taken)
+    (unused g (c .before .if1 .left) ∙ ne-eqb _ _ (c .if3 .taken))
 
 add-i : tie.Need-add-i Inv-loop μ-loop
 add-i c = search needs
@@ -93,21 +102,12 @@ loop-less c = search needs
 loop-again : tie.Need-loop-again Inv-loop μ-loop
 loop-again c =
     let g = c .before .before in
-    let h = g .before in
-    let s = h .before .before .before .before .before .before .before in
-    let i = h .before .before .before .loop .i in
-    let number = numberAt (s .args .big) 8 (s .args .part .now) (s .args .at + 8 * i) in
-    let holds = capacity (s .args .blocksize) (getD (s .args .sizes .now) i 0) in
-    let count = getD (s .args .counts .now) i 0 in (
+    let l = g .before .before .before .before .loop in (
       search needs,
-      all-more _ i (h .before .before .before .loop .inv .1)
+      all-more _ (l .i) (l .inv .1)
           (⊎-elim
-          (λ used.
-          row-used (s .args .k) count holds number (used .0 .taken) (holds-small (s .pre .0) i (h .before .before .loop-test .taken))
-          ∙ le-leb number holds (rw (h .chunk-holds .ensures, g .get-u64 .ensures) at (used .1 .left)))
-          (λ unused.
-          row-unused (s .args .k) count holds number (unused .0 .left) (omega (arith, g .get-u64 .ensures, g .get-u64 .ok))
-          ∙ eq-eqb number 18446744073709551615 (sym (g .get-u64 .ensures) ∙ unused .1 .left))
+          (λ y. used g (y .0 .taken) ∙ le-leb _ _ (y .1 .left))
+          (λ y. unused g (y .0 .left) ∙ eq-eqb _ _ (y .1 .left))
           (c .if1 .came)),
     )
 

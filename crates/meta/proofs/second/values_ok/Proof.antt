@@ -1,15 +1,14 @@
 -- `meta::second::values_ok` meets its contract. The loop's invariant: every row passed keeps its rule, and `at` is where row k starts. The
 -- measure is the rows left. Assumes nothing.
 use Prim.Native.Nat.{ℕ, _+_, _*_, _≤_, _-_}
-use mathlib.Core.Path.{_≡_, sym, ap, _∙_}
+use mathlib.Core.Path.{_≡_, ap, _∙_}
 use mathlib.Core.Bool.{true}
 use native.Mathlib.Omega.{arith}
 use borrow.Author.Needs.{needs}
-use borrow.Author.Tests.{not-true, not-false}
 use lib.Dec.{ltb}
 use Rattle.endian.specs.Below.{allBelow}
 use Rattle.endian.specs.Signed.{signedAt}
-use Rattle.endian.proofs.Below.{all-none, all-more, all-end, all-fails}
+use Rattle.endian.proofs.Below.{test-fails, test-holds, all-none, all-more, all-end, all-fails}
 use Rattle.meta.specs.Meta2.{valueField, valueIndex, valueRule, valuesRule}
 use Rattle.meta.specs.Heads.{entry, holds}
 use Rattle.meta.proofs.Rows.{row-in, row-next, row-cong, meta2-parts}
@@ -59,14 +58,16 @@ tested c =
     let a = c .before .before .before .before .before .before .before .before .args in
     let l = c .before .before .before .before .before .loop in
     let stands : (i : ℕ) → l .at + 8 * i ≡ 8 * a .t2 .n + 8 * valueIndex (a .t2 .n) (l .k) i = λ i. omega arith in
-    c .row-ok .ensures
-    ∙ row-cong (a .t2 .n) (l .k) (holds (a .t2)) (entry (a .counts .now)) _ _ (λ i h. ap (signedAt (a .big) 8 (a .part .now)) (stands i))
+    row-cong (a .t2 .n) (l .k) (holds (a .t2)) (entry (a .counts .now))
+    (λ i. valueField (a .big) (a .part .now) (a .t2 .n) (valueIndex (a .t2 .n) (l .k) i))
+    (c .row-ok .ensures)
+    (λ i h. ap (signedAt (a .big) 8 (a .part .now)) (stands i))
 
 returns : tie.Need-returns Inv-loop μ-loop
 unfolding valuesRule
 returns c =
     all-fails _ (c .before .before .before .before .before .before .loop .k) (search needs)
-    (sym (tested (c .before)) ∙ not-true _ (c .if1 .taken))
+    (test-fails (tested (c .before)) (c .if1 .taken))
 
 mul-at-2 : tie.Need-mul-at-2 Inv-loop μ-loop
 mul-at-2 c = search needs
@@ -90,7 +91,7 @@ loop-again c =
     let l = c .before .before .before .before .before .before .loop in (
       search needs,
       omega (arith, row-next (c .before .before .before .before .before .before .before .before .before .args .t2 .n) (l .k)),
-      all-more _ _ (l .inv .2) (sym (tested (c .before)) ∙ not-false _ (c .if1 .left)),
+      all-more _ _ (l .inv .2) (test-holds (tested (c .before)) (c .if1 .left)),
     )
 
 returns-2 : tie.Need-returns-2 Inv-loop μ-loop

@@ -1,0 +1,188 @@
+-- What a write leaves of a session that follows a book of the tally, where it changes nothing and where it is stored: a session that follows
+-- what the tally says then, and every cell but one as it was. Assumes nothing.
+use mathlib.Core.Path.{_≡_, refl, sym, ap, _∙_, subst, fun-ext}
+use mathlib.Core.Bool.{Bool, true, false}
+use mathlib.Core.List.{[], _∷_}
+use Prim.Native.Nat.{ℕ, _+_, _*_, _-_, _/_, _%_, _≤_, _<_}
+use native.Mathlib.Omega.{arith}
+use lib.Arith.{digits-div, digits-mod}
+use lib.Dec.{eqb}
+use lib.IntN.{ℤ, pos}
+use lib.ListN.{length, set, length-set}
+use lib.Seq.{getD-set-same, getD-set-other}
+use borrow.Author.Tests.{eqb-true, eqb-false}
+use Rattle.meta.specs.Meta2.{valueIndex}
+use Rattle.meta.specs.Heads.{entry, cell, holds}
+use Rattle.meta.proofs.Rules.{valueIndex-lt}
+use Rattle.session.specs.Records.{State}
+use Rattle.session.specs.Write.{Request, room, spot, writeRefusal, stored, afterWrite}
+use Rattle.session.proofs.Outcomes.{accepted-stores}
+use Rattle.room.specs.Tally.{Tally, Book, fateIn, answerTo, told, askOf}
+use Rattle.room.proofs.Fates.{told-other}
+use Rattle.room.proofs.Places.{sane-told, laidIn, length-after}
+use Rattle.room.proofs.Follows.{layout-of, CellIs, Follows, planAt, Own, Step, CellsKept}
+
+-- what is shown of a write
+abbrev pub Did : Book → State → Request → Type 0
+Did b st q =
+    Step (st .session .head) (st .session .planned) b st q × CellsKept (st .session .head) (st .session .planned) b st q
+
+module _ {b : Book} {st : State} (f : Own b st) (q : Request) where
+  -- a write that changes nothing
+  quiet : told (planAt st) b (askOf q) (q .task) ≡ b (q .task) → told (planAt st) b (askOf q) ≡ b
+  quiet e = fun-ext (λ t. go t (eqb (q .task) t) refl)
+    where
+      go : (t : ℕ) (v : Bool) → eqb (q .task) t ≡ v → told (planAt st) b (askOf q) t ≡ b t
+      go t true h = subst (λ (d : ℕ). told (planAt st) b (askOf q) d ≡ b d) (eqb-true (q .task) t h) e
+      go t false h = told-other (planAt st) b (askOf q) t (eqb-false _ _ h)
+
+  pub still : writeRefusal st q ≡ answerTo (fateIn (planAt st) b (askOf q)) → laidIn (planAt st) b (st .image) q ≡ st .image
+      → told (planAt st) b (askOf q) (q .task) ≡ b (q .task) → afterWrite st q ≡ st → Did b st q
+  still number laid same e = (
+    record {
+      number-is = number;
+      image-is = ap (λ (x : State). x .image) e ∙ sym laid;
+      follows = rw (quiet same) (subst (λ (x : State). Follows (st .session .head) (st .session .planned) b x) (sym e) f);
+      table-as-long = ap (λ (x : State). length (x .table)) e;
+      other-cells = λ j l. ap (λ (x : State). cell (x .table) j) e;
+    },
+    λ i k l d. ap (λ (x : State). cell (x .table) (valueIndex (st .session .head .n) k i)) e,
+  )
+
+  -- a write that is stored: of its task the tally says x afterwards
+  module _ (x : Tally) (low : 1 ≤ q .task) (top : q .task ≤ st .session .head .n) (now : told (planAt st) b (askOf q) (q .task) ≡ x)
+      (some : 0 < x .u) (most : x .u ≤ st .session .planned) (chunk-is : spot st q .chunk ≡ x .u)
+      (sum-is : spot st q .from + length (q .bytes) ≡ x .w)
+      (grow : (k : ℕ) (z : ℤ) → (k + 1 ≡ x .u → ⊥) → CellIs (room st q) (b (q .task)) k z → CellIs (room st q) x k z) where
+    -- the cell that is stored
+    cellAt : ℕ
+    cellAt = valueIndex (st .session .head .n) (x .u - 1) (q .task - 1)
+
+    table-is : stored st q .table ≡ set (st .table) cellAt (pos (x .w))
+    unfolding stored cellAt
+    table-is = rw (chunk-is, sum-is)
+
+    counts-is : stored st q .session .counts ≡ set (st .session .counts) (q .task - 1) (x .u)
+    unfolding stored
+    counts-is = rw chunk-is
+
+    cellAt-lt : cellAt < st .session .head .n * st .session .planned
+    unfolding cellAt
+    cellAt-lt = valueIndex-lt (st .session .head .n) (st .session .planned) (x .u - 1) (q .task - 1) (omega arith) (omega arith)
+
+    other-index : (j : ℕ) → (j ≡ cellAt → ⊥) → cell (stored st q .table) j ≡ cell (st .table) j
+    other-index j d = rw table-is (getD-set-other (st .table) cellAt j (pos (x .w)) (pos 0) d)
+
+    other-cell : (i k : ℕ) → i < st .session .head .n → ((k ≡ x .u - 1) × (i ≡ q .task - 1) → ⊥)
+        → cell (stored st q .table) (valueIndex (st .session .head .n) k i) ≡ cell (st .table) (valueIndex (st .session .head .n) k i)
+    unfolding cellAt
+    other-cell i k h d =
+        let n : ℕ = st .session .head .n in
+        let m : q .task - 1 < n = omega arith in
+        other-index (valueIndex n k i)
+        (λ e.
+        d (
+          sym (digits-div k h) ∙ ap (λ (j : ℕ). j / n) e ∙ digits-div (x .u - 1) m,
+          sym (digits-mod k h) ∙ ap (λ (j : ℕ). j % n) e ∙ digits-mod (x .u - 1) m,
+        ))
+
+    same-index : (i k : ℕ) → i ≡ q .task - 1 → k ≡ x .u - 1 → valueIndex (st .session .head .n) k i ≡ cellAt
+    unfolding cellAt
+    same-index i k e d = rw (e, d)
+
+    last-chunk : (i k : ℕ) → i ≡ q .task - 1 → k ≡ x .u - 1 → k + 1 ≡ told (planAt st) b (askOf q) (i + 1) .u
+    last-chunk i k e d =
+        let task : i + 1 ≡ q .task = omega arith in
+        rw (task, now) (omega arith)
+
+    other-tally : (i : ℕ) → (i ≡ q .task - 1 → ⊥) → told (planAt st) b (askOf q) (i + 1) ≡ b (i + 1)
+    other-tally i d = told-other (planAt st) b (askOf q) (i + 1) (λ e. d (omega arith))
+
+    new-cells : (i k : ℕ) → i < st .session .head .n → k < st .session .planned
+        → CellIs (holds (st .session .head) i) (told (planAt st) b (askOf q) (i + 1)) k
+        (cell (stored st q .table) (valueIndex (st .session .head .n) k i))
+    unfolding room
+    new-cells i k h l = go (eqb i (q .task - 1)) refl (eqb (k + 1) (x .u)) refl
+      where
+        go : (v : Bool) → eqb i (q .task - 1) ≡ v → (w : Bool) → eqb (k + 1) (x .u) ≡ w
+            → CellIs (holds (st .session .head) i) (told (planAt st) b (askOf q) (i + 1)) k
+            (cell (stored st q .table) (valueIndex (st .session .head .n) k i))
+        go false e w d = rw (other-tally i (eqb-false _ _ e), other-cell i k h (λ y. eqb-false _ _ e (y .1))) (f .cells-are i k h l)
+        go true e false d =
+            let at : i ≡ q .task - 1 = eqb-true _ _ e in
+            let task : q .task - 1 + 1 ≡ q .task = omega arith in
+            let past : k + 1 ≡ x .u → ⊥ = eqb-false _ _ d in
+            rw (other-cell i k h (λ y. past (omega (arith, y .0))), at, task, now)
+            (grow k _ past (rw (at, task) at (f .cells-are i k h l)))
+        go true e true d =
+            let at : i ≡ q .task - 1 = eqb-true _ _ e in
+            let task : q .task - 1 + 1 ≡ q .task = omega arith in
+            let last : k + 1 ≡ x .u = eqb-true _ _ d in
+            let here : valueIndex (st .session .head .n) k i ≡ cellAt = same-index i k at (omega arith) in
+            let there : cellAt < length (st .table) = omega (arith, cellAt-lt, f .table-long) in
+            rw (here, table-is, getD-set-same (st .table) cellAt (pos (x .w)) (pos 0) there, at, task, now)
+            (record { used = λ y. absurd (omega arith); last = λ _. refl; none = λ y. absurd (omega arith) })
+
+    new-counts : (i : ℕ) → i < st .session .head .n → entry (stored st q .session .counts) i ≡ told (planAt st) b (askOf q) (i + 1) .u
+    new-counts i h = go (eqb i (q .task - 1)) refl
+      where
+        go : (v : Bool) → eqb i (q .task - 1) ≡ v → entry (stored st q .session .counts) i ≡ told (planAt st) b (askOf q) (i + 1) .u
+        go true e =
+            let at : i ≡ q .task - 1 = eqb-true _ _ e in
+            let task : q .task - 1 + 1 ≡ q .task = omega arith in
+            rw (counts-is, at, task, now)
+            (getD-set-same (st .session .counts) (q .task - 1) (x .u) 0 (omega (arith, f .entries)))
+        go false e =
+            rw (counts-is, other-tally i (eqb-false _ _ e))
+            (getD-set-other (st .session .counts) (q .task - 1) i (x .u) 0 (eqb-false _ _ e) ∙ f .counts-are i h)
+
+    head-same : stored st q .session .head ≡ st .session .head
+    unfolding stored
+    head-same = refl
+
+    planned-same : stored st q .session .planned ≡ st .session .planned
+    unfolding stored
+    planned-same = refl
+
+    closed-same : stored st q .session .closed ≡ st .session .closed
+    unfolding stored
+    closed-same = refl
+
+    stored-follows : length (stored st q .image) ≡ length (st .image)
+        → Follows (st .session .head) (st .session .planned) (told (planAt st) b (askOf q)) (stored st q)
+    stored-follows long =
+        record {
+          head-is = head-same;
+          planned-is = planned-same;
+          unmarked = closed-same ∙ f .unmarked;
+          sound = f .sound;
+          some = f .some;
+          few = f .few;
+          entries = rw (counts-is, length-set) (f .entries);
+          image-long = rw long (f .image-long);
+          table-long = rw (table-is, length-set) (f .table-long);
+          counts-are = new-counts;
+          cells-are = new-cells;
+          sane = sane-told (planAt st) b (askOf q) (f .sane);
+        }
+
+    pub store : writeRefusal st q ≡ 0 → answerTo (fateIn (planAt st) b (askOf q)) ≡ 0 → 0 < length (q .bytes)
+        → stored st q .image ≡ laidIn (planAt st) b (st .image) q → Did b st q
+    store number zero bytes image =
+        let e = accepted-stores st q number bytes in
+        let lo = layout-of (st .session .head) (st .session .planned) (f .sound) in
+        let long : length (stored st q .image) ≡ length (st .image) =
+        ap length image ∙ length-after _ _ _ lo (q ∷ []) b (st .image) (f .image-long) (f .sane) in (
+          record {
+            number-is = number ∙ sym zero;
+            image-is = ap (λ (x : State). x .image) e ∙ image;
+            follows =
+                subst (λ (x : State). Follows (st .session .head) (st .session .planned) (told (planAt st) b (askOf q)) x) (sym e)
+                (stored-follows long);
+            table-as-long = ap (λ (x : State). length (x .table)) e ∙ rw table-is (length-set (st .table) cellAt (pos (x .w)));
+            other-cells = λ j l. ap (λ (x : State). cell (x .table) j) e ∙ other-index j (λ z. omega (arith, cellAt-lt));
+          },
+          λ i k l d.
+              ap (λ (x : State). cell (x .table) (valueIndex (st .session .head .n) k i)) e
+              ∙ other-cell i k l (λ y. d (omega (arith, y .1)) (last-chunk i k (y .1) (y .0))),
+        )
