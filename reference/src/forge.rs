@@ -176,12 +176,3 @@ impl Container {
         copy
     }
 }
-
-/// The full container of `./bench`: 64 tasks with 32 full chunks of 512 bytes, about 1 MiB.
-pub fn bench() -> Vec<u8> {
-    let mut plan = Plan::new(Order::Little, &[512; 64]);
-    plan.k = 32;
-    let content = |i: u64| (0..512).map(|j| ((i * 31 + j) % 251) as u8).collect();
-    let requests: Vec<(u64, Vec<u8>)> = (0..64 * 32).map(|i| (i % 64 + 1, content(i))).collect();
-    plan.build(&requests).bytes
-}

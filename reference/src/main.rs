@@ -9,7 +9,7 @@ use std::error::Error;
 use std::io::{stdin, Read};
 use std::path::Path;
 
-const USAGE: &str = "reference check | vectors DIR | random SEED COUNT DIR | bench-container FILE";
+const USAGE: &str = "reference check | vectors DIR | random SEED COUNT DIR";
 
 fn main() -> Result<(), Box<dyn Error>> {
     let args: Vec<String> = std::env::args().skip(1).collect();
@@ -21,7 +21,6 @@ fn main() -> Result<(), Box<dyn Error>> {
             let containers = random::all(seed.parse()?, count.parse()?);
             report::save(Path::new(dir), containers)
         }
-        ["bench-container", file] => Ok(std::fs::write(file, forge::bench())?),
         _ => Err(USAGE.into()),
     }
 }

@@ -4,7 +4,7 @@ use lib.ListN.{length}
 use Rattle.room.proofs.Steps.{passes, runs}
 use Rattle.room.proofs.Opened.{opened-follows}
 use Rattle.container.specs.Demands.{Refusals, Format, Demands}
-use Rattle.container.proofs.Refusing.{load-number, load-refuses, reads-refuse, open-number, open-refuses, write-refuses, close-refuses}
+use Rattle.container.proofs.Refusing.{load-number, load-refuses, part-there, reads-refuse, open-number, needs-refuses, open-refuses, write-refuses, close-refuses}
 use Rattle.container.proofs.Only.{only}
 use Rattle.container.proofs.Every.{every, says}
 use Rattle.container.proofs.ReadsBack.{reads-back, refuses-back}
@@ -16,6 +16,7 @@ refusals : Refusals
 refusals = record {
   load-refuses = load-refuses;
   reads-refuse = reads-refuse;
+  needs-refuses = needs-refuses;
   open-refuses = open-refuses;
   write-refuses = write-refuses;
   close-refuses = close-refuses;
@@ -31,6 +32,7 @@ format = record {
         every = λ c room. load-number image table ∙ every image (c .says) (c .first) (c .second) (length table) room;
         says = λ c e. says image (c .says) (c .first) (c .second) table (sym (load-number image table) ∙ e);
       };
+  part-there = part-there;
   reads-back =
       λ image table c e. reads-back image (c .says) (c .first) (c .second) table (sym (load-number image table) ∙ e);
   refuses-back =

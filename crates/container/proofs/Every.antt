@@ -27,12 +27,12 @@ use Rattle.meta.proofs.Rules.{ranks-hold, sizes-hold, counts-hold, values-hold,
 use Rattle.meta.proofs.Filled.{length-filled, entry-filled, entry-past, filled-cong}
 use Rattle.meta.proofs.Heads.{isBig-order, holds-made, meta2At-made, endAt-made}
 use Rattle.meta.proofs.Accepting.{Meta1Holds, marked-holds, order-forced, Meta2Holds}
-use Rattle.container.specs.declared.record.Loaded.{Loaded}
-use Rattle.container.specs.Records.{loadedOf}
+use Rattle.reading.specs.declared.record.Loaded.{Loaded}
+use Rattle.reading.specs.Records.{loadedOf}
 use Rattle.container.specs.Format.{Contents, HasMeta1, HasMeta2, partOf, valueOf}
-use Rattle.container.specs.Load.{partIn, loadedIn, loadRefusal, loadAnswer, loadTable}
+use Rattle.reading.specs.Load.{partIn, loadedIn, loadRefusal, loadAnswer, loadTable}
 use Rattle.container.specs.Demands.{Lists, Recorded, Says}
-use Rattle.container.proofs.LoadTests.{load-holds, load-passes}
+use Rattle.reading.proofs.LoadTests.{load-holds, load-passes}
 
 abbrev pub headSaid : Contents → Head
 headSaid s = headOf (orderOf (s .big)) (s .version) (s .patch) (s .blocksize) (s .n) (s .rank) (s .size)

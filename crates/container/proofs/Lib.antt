@@ -1,12 +1,7 @@
 pub mod Numbers
 pub mod Refusing
-pub mod LoadTests
-pub mod LoadAnswers
 pub mod Only
 pub mod Every
-pub mod Records
-pub mod Readable
-pub mod Stream
 pub mod ReadsBack
 pub mod Stores
 pub mod ClosedParts

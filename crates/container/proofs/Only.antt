@@ -20,8 +20,8 @@ use Rattle.meta.proofs.Filled.{entry-filled}
 use Rattle.meta.proofs.Heads.{isBig-order, holds-made, meta2At-made, endAt-made}
 use Rattle.meta.proofs.Accepting.{Meta1Holds, marked-is, Meta2Holds}
 use Rattle.container.specs.Format.{Contents, HasMeta1, HasMeta2, IsContainer, partOf}
-use Rattle.container.specs.Load.{partIn, loadRefusal}
-use Rattle.container.proofs.LoadTests.{load-holds}
+use Rattle.reading.specs.Load.{partIn, loadRefusal}
+use Rattle.reading.proofs.LoadTests.{load-holds}
 
 -- what the fields of an image say
 abbrev contentsIn : List ℕ → Contents

@@ -20,19 +20,19 @@ use Rattle.meta.specs.Heads.{entry, cell, filled, headOf, headSound, cellsAgree
 use Rattle.meta.proofs.Refusals.{first-passes, first-fails, when-accepted}
 use Rattle.meta.proofs.Filled.{length-filled, entry-filled}
 use Rattle.meta.proofs.Heads.{order-sound, startOf-made, endAt-made}
-use Rattle.container.specs.declared.record.Loaded.{Loaded}
-use Rattle.container.specs.Records.{loadedSound, loadedOf}
+use Rattle.reading.specs.declared.record.Loaded.{Loaded}
+use Rattle.reading.specs.Records.{loadedSound, loadedOf}
 use Rattle.container.specs.Format.{Contents, HasMeta1, HasMeta2}
-use Rattle.container.specs.Load.{loadRefusal, loadAnswer, loadTable}
-use Rattle.container.specs.Reads.{Container, containerOf, loadedTests, readTests, used, writtenIn, chunkBytes, chunkRefusal, chunkPart}
-use Rattle.container.specs.Reads.{streamOf, totalOf, totalAnswer, readRefusal, readAnswer, readOutput}
+use Rattle.reading.specs.Load.{loadRefusal, loadAnswer, loadTable}
+use Rattle.reading.specs.Reads.{Container, containerOf, loadedTests, readTests, used, writtenIn, chunkBytes, chunkRefusal, chunkPart}
+use Rattle.reading.specs.Reads.{streamOf, totalOf, totalAnswer, readRefusal, readAnswer, readOutput}
 use Rattle.container.specs.Demands.{bytesSaid, streamSaid, totalSaid, Says, ReadsBack, RefusesBack}
 use Rattle.container.proofs.Every.{headSaid, few, block-kept, tasks-kept, maxchunks-kept, ranks-kept, sizes-kept, counts-kept, values-kept}
 use Rattle.container.proofs.Every.{loaded-is, room, says}
 use Rattle.container.proofs.Refusing.{total-number, read-number}
 use Rattle.meta.proofs.Records.{record-passes}
-use Rattle.container.proofs.Readable.{loaded-numbered, read-numbered, readable}
-use Rattle.container.proofs.Stream.{chunk-length, chunk-allowed, counted}
+use Rattle.reading.proofs.Readable.{loaded-numbered, read-numbered, readable}
+use Rattle.reading.proofs.Stream.{chunk-length, chunk-allowed, counted}
 
 -- a number counted from 1 that is 0 or past the last
 within-none : (n number : ℕ) → (number ≡ 0) ⊎ (n < number) → within 1 n (pos number) ≡ false

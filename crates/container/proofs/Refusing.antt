@@ -1,31 +1,33 @@
 -- Demand 1: a refusal is one of the entry's own numbers, and a refused call moves nothing. Assumes nothing.
-use mathlib.Core.Path.{_≡_, refl, ap}
+use mathlib.Core.Path.{_≡_, refl, ap, _∙_}
 use mathlib.Core.Bool.{Bool, true, false, cond, not, _||_, false≢true}
 use mathlib.Core.List.{List, [], _∷_, _++_}
 use mathlib.Core.Logic.{inl, inr}
 use Prim.Native.Nat.{ℕ, _<_}
 use lib.Dec.{ltb, eqb}
 use lib.IntN.{ℤ}
-use lib.ListN.{length}
+use lib.ListN.{length, take, drop}
 use borrow.Author.Tests.{eqb-true}
 use Rattle.meta.specs.Refusals.{Test, test, firstFailing}
 use Rattle.meta.specs.Judge.{startTests, fieldTests, fixedTests, listTests, lastTests, meta1Tests, meta2Tests}
 use Rattle.meta.proofs.Refusals.{Each, answered, when-refused, number-is}
-use Rattle.container.specs.declared.record.Checked.{Checked}
-use Rattle.container.specs.declared.record.Counted.{Counted}
+use Rattle.reading.specs.declared.record.Checked.{Checked}
+use Rattle.reading.specs.declared.record.Part.{Part}
+use Rattle.reading.specs.declared.record.Counted.{Counted}
 use Rattle.meta.specs.Heads.{recordTests, isTask}
-use Rattle.session.specs.declared.record.Written.{Written}
+use Rattle.session.specs.declared.record.Needed.{Needed}
+use Rattle.session.specs.declared.record.Started.{Started}
 use Rattle.session.specs.declared.record.Closed.{Closed}
 use Rattle.session.specs.Records.{State, sessionTests}
 use Rattle.session.specs.Open.{Opening, shapeTests, numberTests, planTests, openRefusal, opens, openAnswer}
 use Rattle.session.specs.Write.{Request, room, spot, requestTests, writeRefusal}
 use Rattle.session.specs.Close.{closeRefusal, closeAnswer, closeImage}
-use Rattle.session.proofs.Openings.{refused-answer, refused-image, refused-table}
+use Rattle.session.proofs.Openings.{needs-number, needs-refused, open-plan, open-short, open-enough, refused-answer, refused-image, refused-table}
 use Rattle.session.proofs.Outcomes.{refused-keeps, empty-keeps}
-use Rattle.container.specs.Load.{loadRefusal, loadAnswer, loadTable}
-use Rattle.container.specs.Reads.{Container, loadedTests, readTests, chunkRefusal, chunkPart, totalAnswer, readRefusal, readAnswer, readOutput}
-use Rattle.container.specs.Demands.{OneOf, loadNumbers, chunkNumbers, readNumbers, totalNumbers, openNumbers, writeNumbers, closeNumbers}
-use Rattle.container.specs.Demands.{LoadRefuses, ReadsRefuse, OpenRefuses, WriteRefuses, CloseRefuses}
+use Rattle.reading.specs.Load.{loadRefusal, loadAnswer, loadTable}
+use Rattle.reading.specs.Reads.{Container, loadedTests, readTests, chunkRefusal, chunkBytes, chunkPart, partOf, partAnswer, totalAnswer, readRefusal, readAnswer, readOutput}
+use Rattle.container.specs.Demands.{OneOf, loadNumbers, chunkNumbers, readNumbers, totalNumbers, needsNumbers, openNumbers, writeNumbers, closeNumbers}
+use Rattle.container.specs.Demands.{LoadRefuses, PartThere, ReadsRefuse, NeedsRefuses, OpenRefuses, WriteRefuses, CloseRefuses}
 
 -- whether a number is one of a list's, as a test
 listed : List ℕ → ℕ → Bool
@@ -84,11 +86,24 @@ module _ (c : Container) (task : ℕ) where
   unfolding readAnswer
   read-number p out = number-is (readRefusal c task p) _ _ (λ (a : Counted). a .refusal) refl refl
 
+  pub part-there : (chunk : ℕ) → PartThere c task chunk
+  unfolding partAnswer partOf chunkPart chunkBytes
+  part-there chunk = go (eqb (chunkRefusal c task chunk) 0)
+    where
+      go : (b : Bool)
+          → let part = cond b (partOf c task chunk) (record { refusal = chunkRefusal c task chunk; start = 0; length = 0 }) in
+          take (part .length) (drop (part .start) (c .image)) ≡ cond b (chunkBytes c task chunk) []
+      go true = refl
+      go false = refl
+
   pub reads-refuse : ReadsRefuse c task
-  unfolding chunkRefusal chunkPart totalAnswer readRefusal readAnswer readOutput loadedTests readTests recordTests listed
+  unfolding chunkRefusal chunkPart partAnswer partOf totalAnswer readRefusal readAnswer readOutput loadedTests readTests recordTests listed
   reads-refuse = record {
     chunk-numbered = λ chunk. one-of-tests chunkNumbers _ (refl, (refl, (refl, (refl, (refl, tt)))));
     chunk-empty = λ chunk l. when-refused _ _ _ l;
+    part-number = λ chunk. number-is (chunkRefusal c task chunk) _ _ (λ (a : Part). a .refusal) refl refl;
+    part-nothing = λ chunk l. let e = when-refused (chunkRefusal c task chunk) _ _ l in
+        (ap (λ (a : Part). a .start) e, ap (λ (a : Part). a .length) e);
     read-numbered = λ p out. rw read-number (one-of-tests readNumbers _ (refl, (refl, (refl, (refl, (refl, tt))))));
     read-nothing = λ p out l. let r : 0 < readRefusal c task p = rw read-number at l in
         (ap (λ (a : Counted). a .bytes) (when-refused _ _ _ r), when-refused _ _ _ r);
@@ -101,11 +116,25 @@ module _ (c : Container) (task : ℕ) where
 module _ (o : Opening) (image : List ℕ) (table : List ℤ) where
   pub open-number : openAnswer o image table .refusal ≡ openRefusal o (length image) (length table)
   unfolding openAnswer opens
-  open-number = number-is (openRefusal o (length image) (length table)) _ _ (λ (a : Written). a .refusal) refl refl
+  open-number = number-is (openRefusal o (length image) (length table)) _ _ (λ (a : Started). a .refusal) refl refl
 
   open-listed : OneOf (0 ∷ openNumbers) (openRefusal o (length image) (length table))
   unfolding openRefusal planTests shapeTests numberTests listed
   open-listed = one-of-tests openNumbers _ (refl, (refl, (refl, (refl, (refl, (refl, (refl, (refl, tt))))))))
+
+  needs-listed : OneOf (0 ∷ needsNumbers) (firstFailing (planTests o))
+  unfolding planTests shapeTests numberTests listed
+  needs-listed = one-of-tests needsNumbers _ (refl, (refl, (refl, (refl, (refl, (refl, (refl, tt)))))))
+
+  pub needs-refuses : NeedsRefuses o image table
+  needs-refuses = record {
+    numbered = rw (needs-number o) needs-listed;
+    nothing =
+        λ l. let e = needs-refused o (rw (needs-number o) at l) in (ap (λ (a : Needed). a .image) e, ap (λ (a : Needed). a .cells) e);
+    refused = λ l. open-number ∙ open-plan o (length image) (length table) l;
+    short = λ none l. open-number ∙ open-short o (length image) (length table) none l;
+    enough = λ none i t. open-number ∙ open-enough o (length image) (length table) none i t;
+  }
 
   pub open-refuses : OpenRefuses o image table
   open-refuses = record {
@@ -114,7 +143,7 @@ module _ (o : Opening) (image : List ℕ) (table : List ℤ) where
         λ l. let r : 0 < openRefusal o (length image) (length table) = rw open-number at l in (
           refused-image o image table r,
           refused-table o image table r,
-          ap (λ (a : Written). a .session) (refused-answer o image table r),
+          ap (λ (a : Started). a .session) (refused-answer o image table r),
         );
   }
 
@@ -135,7 +164,7 @@ write-listed st q = go (eqb (length (q .bytes)) 0)
 pub write-refuses : (st : State) (q : Request) → WriteRefuses st q
 write-refuses st q = record {
   numbered = write-listed st q;
-  nothing-moved = λ l. let e = refused-keeps st q l in (e, ap (λ (s : State). s .session) e);
+  nothing-moved = refused-keeps st q;
   empty-moves-nothing = empty-keeps st q;
 }
 

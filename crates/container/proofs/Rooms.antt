@@ -86,6 +86,7 @@ module _ (o : Opening) (image : List ℕ) (table : List ℤ) (zero : openRefusal
       planned = last .planned-is ∙ sym (first .planned-is);
       closed = last .unmarked ∙ sym (first .unmarked);
       counts = λ i l. last .counts-are i l;
+      other-counts = run .other-counts;
       last-cells = λ i k l e. last .cells-are i k l (omega (arith, e, good (i + 1) .most)) .last e;
       later-cells = λ i k l e m. last .cells-are i k l m .none e;
       next-cells = λ q i k l d.

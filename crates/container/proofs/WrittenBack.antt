@@ -31,14 +31,14 @@ use Rattle.room.proofs.Steps.{passes, runs}
 use Rattle.room.proofs.Opened.{opened-follows}
 use Rattle.room.proofs.Streams.{bytesIn, streamIn, stream-all, front-kept}
 use Rattle.container.specs.Format.{Contents, HasMeta1, HasMeta2}
-use Rattle.container.specs.Load.{loadRefusal, loadAnswer, loadTable}
-use Rattle.container.specs.Reads.{Container, containerOf, chunkPart}
+use Rattle.reading.specs.Load.{loadRefusal, loadAnswer, loadTable}
+use Rattle.reading.specs.Reads.{Container, containerOf, chunkPart}
 use Rattle.container.specs.Demands.{bytesSaid, streamSaid, totalSaid, Says, ReadsBack, VersionsFit, contentsOf}
 use Rattle.container.specs.Demands.{GivesBack, LoadsAgain, WrittenBack}
 use Rattle.container.proofs.Refusing.{load-number}
 use Rattle.container.proofs.Every.{every, says}
 use Rattle.container.proofs.ReadsBack.{reads-back}
-use Rattle.container.proofs.Stream.{counted}
+use Rattle.reading.proofs.Stream.{counted}
 use Rattle.container.proofs.Refusing.{open-number, close-number}
 use Rattle.container.proofs.Stores.{opened-bytes}
 use Rattle.container.proofs.ClosedParts.{Closable, closedAs, closed-as-long, image-long, between-kept, closed-most, used, same-part}

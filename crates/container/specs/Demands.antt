@@ -21,15 +21,15 @@ use Rattle.meta.specs.Meta2.{valueIndex, unused, meta2}
 use Rattle.meta.specs.Heads.{entry, cell, isBig, orderOf, meta2At, endAt}
 use Rattle.session.specs.declared.record.Session.{Session}
 use Rattle.session.specs.Records.{State, sessionTests, noSession, marked}
-use Rattle.session.specs.Open.{Opening, tasks, openAnswer, openImage, openTable, opened}
-use Rattle.session.specs.Write.{Request, writeRefusal, writeAnswer, afterWrite, writes, refusals, accepted}
+use Rattle.session.specs.Open.{Opening, tasks, needsAnswer, openAnswer, openImage, openTable, opened}
+use Rattle.session.specs.Write.{Request, writeRefusal, afterWrite, writes, refusals, accepted}
 use Rattle.session.specs.Close.{maxchunksOf, closeAnswer, closeImage}
 use Rattle.room.specs.Tally.{planOf, blank, askOf, asks, answers, told, toldAll, held, own, ownAnswers, Lands}
-use Rattle.container.specs.declared.record.Loaded.{Loaded}
-use Rattle.container.specs.Records.{noLoaded}
+use Rattle.reading.specs.declared.record.Loaded.{Loaded}
+use Rattle.reading.specs.Records.{noLoaded}
 use Rattle.container.specs.Format.{Contents, IsContainer}
-use Rattle.container.specs.Load.{loadAnswer, loadTable}
-use Rattle.container.specs.Reads.{Container, containerOf, chunkRefusal, chunkPart, totalAnswer, readAnswer, readOutput}
+use Rattle.reading.specs.Load.{loadAnswer, loadTable}
+use Rattle.reading.specs.Reads.{Container, containerOf, chunkRefusal, chunkPart, partAnswer, totalAnswer, readAnswer, readOutput}
 
 -- ---- demand 1: refusals
 
@@ -54,6 +54,10 @@ totalNumbers = 17 ∷ 18 ∷ 19 ∷ 14 ∷ []
 abbrev pub openNumbers : List ℕ
 openNumbers = 2 ∷ 5 ∷ 6 ∷ 21 ∷ 8 ∷ 9 ∷ 20 ∷ 18 ∷ []
 
+-- of these, the numbers that it gets whatever it is lent
+abbrev pub needsNumbers : List ℕ
+needsNumbers = 2 ∷ 5 ∷ 6 ∷ 21 ∷ 8 ∷ 9 ∷ 20 ∷ []
+
 abbrev pub writeNumbers : List ℕ
 writeNumbers = 17 ∷ 18 ∷ 19 ∷ 14 ∷ 15 ∷ 16 ∷ []
 
@@ -65,10 +69,12 @@ pub record LoadRefuses (image : List ℕ) (table : List ℤ) : Type 0 where
   pub numbered : OneOf (0 ∷ loadNumbers) (loadAnswer image table .refusal)
   pub nothing-moved : 0 < loadAnswer image table .refusal → (loadTable image table ≡ table) × (loadAnswer image table .loaded ≡ noLoaded)
 
--- the reads: refused, the part is empty, the count and the total are 0, and the output is as it came
+-- the reads: refused, the part is empty, its place, the count and the total are 0, and the output is as it came
 pub record ReadsRefuse (c : Container) (task : ℕ) : Type 0 where
   pub chunk-numbered : (chunk : ℕ) → OneOf (0 ∷ chunkNumbers) (chunkRefusal c task chunk)
   pub chunk-empty : (chunk : ℕ) → 0 < chunkRefusal c task chunk → chunkPart c task chunk ≡ []
+  pub part-number : (chunk : ℕ) → partAnswer c task chunk .refusal ≡ chunkRefusal c task chunk
+  pub part-nothing : (chunk : ℕ) → 0 < chunkRefusal c task chunk → (partAnswer c task chunk .start ≡ 0) × (partAnswer c task chunk .length ≡ 0)
   pub read-numbered : (p : ℕ) → (out : List ℕ) → OneOf (0 ∷ readNumbers) (readAnswer c task p out .refusal)
   pub read-nothing : (p : ℕ) → (out : List ℕ) → 0 < readAnswer c task p out .refusal
       → (readAnswer c task p out .bytes ≡ 0) × (readOutput c task p out ≡ out)
@@ -81,10 +87,20 @@ pub record OpenRefuses (o : Opening) (image : List ℕ) (table : List ℤ) : Typ
   pub nothing-moved : 0 < openAnswer o image table .refusal
       → (openImage o image table ≡ image) × (openTable o image table ≡ table) × (openAnswer o image table .session ≡ noSession)
 
+-- what an opening needs: refused, the lengths are 0; and it says just how the opening is answered, whatever that is lent
+pub record NeedsRefuses (o : Opening) (image : List ℕ) (table : List ℤ) : Type 0 where
+  pub numbered : OneOf (0 ∷ needsNumbers) (needsAnswer o .refusal)
+  pub nothing : 0 < needsAnswer o .refusal → (needsAnswer o .image ≡ 0) × (needsAnswer o .cells ≡ 0)
+  pub refused : 0 < needsAnswer o .refusal → openAnswer o image table .refusal ≡ needsAnswer o .refusal
+  pub short : needsAnswer o .refusal ≡ 0 → (length image < needsAnswer o .image) ⊎ (length table < needsAnswer o .cells)
+      → openAnswer o image table .refusal ≡ 18
+  pub enough : needsAnswer o .refusal ≡ 0 → needsAnswer o .image ≤ length image → needsAnswer o .cells ≤ length table
+      → openAnswer o image table .refusal ≡ 0
+
 -- a write: refused or empty, record, image and table are as they came
 pub record WriteRefuses (st : State) (q : Request) : Type 0 where
-  pub numbered : OneOf (0 ∷ writeNumbers) (writeAnswer st q .refusal)
-  pub nothing-moved : 0 < writeAnswer st q .refusal → (afterWrite st q ≡ st) × (writeAnswer st q .session ≡ st .session)
+  pub numbered : OneOf (0 ∷ writeNumbers) (writeRefusal st q)
+  pub nothing-moved : 0 < writeRefusal st q → afterWrite st q ≡ st
   pub empty-moves-nothing : length (q .bytes) ≡ 0 → afterWrite st q ≡ st
 
 -- closing: refused, record and image are as they came and the length is 0
@@ -100,6 +116,7 @@ Alive o image table = (qs : List Request) → firstFailing (sessionTests (writes
 pub record Refusals : Type 0 where
   pub load-refuses : (image : List ℕ) → (table : List ℤ) → LoadRefuses image table
   pub reads-refuse : (c : Container) → (task : ℕ) → ReadsRefuse c task
+  pub needs-refuses : (o : Opening) → (image : List ℕ) → (table : List ℤ) → NeedsRefuses o image table
   pub open-refuses : (o : Opening) → (image : List ℕ) → (table : List ℤ) → OpenRefuses o image table
   pub write-refuses : (st : State) → (q : Request) → WriteRefuses st q
   pub close-refuses : (st : State) → CloseRefuses st
@@ -140,6 +157,11 @@ pub record AcceptsExactly (image : List ℕ) (table : List ℤ) : Type 0 where
   pub every : (c : IsContainer image) → c .says .n * c .says .maxchunks ≤ length table → loadAnswer image table .refusal ≡ 0
   pub says : (c : IsContainer image) → loadAnswer image table .refusal ≡ 0
       → Says (c .says) (loadAnswer image table .loaded) table (loadTable image table)
+
+-- a part's place in the image: the bytes there are the part, whatever record, image and table came in
+abbrev pub PartThere : Container → ℕ → ℕ → Type 0
+PartThere c task chunk =
+    take (partAnswer c task chunk .length) (drop (partAnswer c task chunk .start) (c .image)) ≡ chunkPart c task chunk
 
 -- ---- what is read of a container, with the record and the table that loading handed back
 
@@ -262,6 +284,7 @@ pub record WrittenBack (o : Opening) (image : List ℕ) (table : List ℤ) (qs :
 
 pub record Format : Type 0 where
   pub accepts-exactly : (image : List ℕ) → (table : List ℤ) → AcceptsExactly image table
+  pub part-there : (c : Container) → (task chunk : ℕ) → PartThere c task chunk
   pub reads-back : (image : List ℕ) → (table : List ℤ) → (c : IsContainer image) → loadAnswer image table .refusal ≡ 0
       → ReadsBack image (c .says) (containerOf (loadAnswer image table .loaded) image (loadTable image table))
   pub refuses-back : (image : List ℕ) → (table : List ℤ) → (c : IsContainer image) → loadAnswer image table .refusal ≡ 0
@@ -293,13 +316,14 @@ pub record Placed (o : Opening) (start : State) (qs : List Request) : Type 0 whe
   pub own-blocks : {task task′ at at′ value value′ : ℕ} → Lands (planOf o) task at value blank qs → Lands (planOf o) task′ at′ value′ blank qs
       → at / o .blocksize ≡ at′ / o .blocksize → task ≡ task′
 
--- the record and the table: a task's count is the tally's u and its last cell the tally's w, later cells are -1; head, K, mark and the cells
--- past n·K are as the opening left them; and the next write moves no cell but the one that is then its task's last
+-- the record and the table: a task's count is the tally's u and its last cell the tally's w, later cells are -1; head, K, mark, the counts past
+-- n and the cells past n·K are as the opening left them; and the next write moves no cell but the one that is then its task's last
 pub record Kept (o : Opening) (start : State) (qs : List Request) : Type 0 where
   pub head : writes start qs .session .head ≡ start .session .head
   pub planned : writes start qs .session .planned ≡ start .session .planned
   pub closed : writes start qs .session .closed ≡ start .session .closed
   pub counts : (i : ℕ) → i < tasks o → entry (writes start qs .session .counts) i ≡ toldAll (planOf o) blank (asks qs) (i + 1) .u
+  pub other-counts : (i : ℕ) → tasks o ≤ i → entry (writes start qs .session .counts) i ≡ entry (start .session .counts) i
   pub last-cells : (i k : ℕ) → i < tasks o → k + 1 ≡ toldAll (planOf o) blank (asks qs) (i + 1) .u
       → cell (writes start qs .table) (valueIndex (tasks o) k i) ≡ pos (toldAll (planOf o) blank (asks qs) (i + 1) .w)
   pub later-cells : (i k : ℕ) → i < tasks o → toldAll (planOf o) blank (asks qs) (i + 1) .u ≤ k → k < o .planned

@@ -13,12 +13,12 @@ use Rattle.endian.specs.Splice.{splice}
 use Rattle.meta.specs.Meta1.{formatField, maxchunksField, startField, meta1}
 use Rattle.meta.specs.Heads.{entry, filled, orderOf, headOf}
 use Rattle.session.specs.Records.{State}
-use Rattle.session.specs.Open.{Opening, openRefusal, opened}
+use Rattle.session.specs.Open.{Opening, needsAnswer, openRefusal, opened}
 use Rattle.session.specs.Write.{Request, target, writes, refusals}
 use Rattle.session.specs.Close.{closeAnswer, closeImage}
-use Rattle.container.specs.Records.{loadedOf}
-use Rattle.container.specs.Load.{loadRefusal, loadAnswer, loadTable}
-use Rattle.container.specs.Reads.{Container, containerOf, chunkRefusal, chunkPart, totalAnswer, readRefusal, readAnswer, readOutput}
+use Rattle.reading.specs.Records.{loadedOf}
+use Rattle.reading.specs.Load.{loadRefusal, loadAnswer, loadTable}
+use Rattle.reading.specs.Reads.{Container, containerOf, chunkRefusal, chunkPart, partAnswer, totalAnswer, readRefusal, readAnswer, readOutput}
 use Rattle.room.specs.Tally.{Plan, planOf, asks, Book, offset, blank, fateIn, toldAll, answers, held}
 
 -- a row: what the rules compute, and what the paper says
@@ -165,6 +165,10 @@ withBlocksize b = openRefusal (plan 0 b (500 ∷ []) 1) (8 * 4_194_304) 1
 abbrev pub withTasks : ℕ → ℕ
 withTasks n = openRefusal (plan 0 512 (replicate n 512) 1) 65_536 64
 
+-- what an opening needs
+abbrev pub needed : Opening → List ℕ
+needed o = let a = needsAnswer o in a .refusal ∷ a .image ∷ a .cells ∷ []
+
 abbrev pub withPlanned : ℕ → ℕ
 withPlanned k = openRefusal (plan 0 512 (500 ∷ []) k) 65_536 64
 
@@ -213,12 +217,14 @@ line image =
     ∷ [])
     ++ (c .loaded .head .version ∷ c .loaded .head .patch ∷ formatField false image ∷ [])
 
--- the second chunk of task 1, no third one, the last two bytes of its stream into four bytes of 9, a place past its total, and no
+-- the second chunk of task 1 and its place, no third one, the last two bytes of its stream into four bytes of 9, a place past its total, and no
 -- third task
 abbrev pub reads : Container → List ℕ
 reads c =
     chunkPart c 1 2
-    ++ (chunkRefusal c 1 3
+    ++ (partAnswer c 1 2 .start
+    ∷ partAnswer c 1 2 .length
+    ∷ chunkRefusal c 1 3
     ∷ readAnswer c 1 499 (replicate 4 9) .bytes
     ∷ readOutput c 1 499 (replicate 4 9)
     ++ (readRefusal c 1 502 ∷ readRefusal c 3 0 ∷ []))
@@ -253,6 +259,7 @@ otherTable =
     ∷ row
     (withRanks (0 ∷ 2_147_483_647 ∷ []) ∷ withRanks (0 ∷ 2_147_483_648 ∷ []) ∷ withRanks (3 ∷ 3 ∷ []) ∷ [])
     (0 ∷ 8 ∷ 8 ∷ [])
+    ∷ row (needed (plan 0 512 two 3) ++ needed (plan 2 512 two 3)) (0 ∷ 6208 ∷ 6 ∷ 2 ∷ 0 ∷ 0 ∷ [])
     -- "For P12 the line is `0 2 2 501 0`", from its 4,656 bytes; with one byte fewer META2 does not fit
     ∷ record {
       computed = line (twoImage 0 4656);
@@ -288,5 +295,5 @@ otherTable =
     ∷ chunkOf 0 2064 (pos 0 ∷ []) 2
     ∷ [])
     (0 ∷ 17 ∷ 18 ∷ 18 ∷ 19 ∷ 19 ∷ 14 ∷ [])
-    ∷ row (reads (loadedFrom (twoImage 1 4656))) (3 ∷ 22 ∷ 2 ∷ 2 ∷ 3 ∷ 9 ∷ 9 ∷ 23 ∷ 14 ∷ [])
+    ∷ row (reads (loadedFrom (twoImage 1 4656))) (3 ∷ 3072 ∷ 1 ∷ 22 ∷ 2 ∷ 2 ∷ 3 ∷ 9 ∷ 9 ∷ 23 ∷ 14 ∷ [])
     ∷ []

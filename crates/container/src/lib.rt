@@ -1,14 +1,11 @@
-// One container of the SIONlib file format over memory that the caller lends: its records, the session entries, loading, and the reads.
-mod loading;
-mod reads;
-pub mod record;
-mod sound;
-
-pub use loading::load;
-pub use reads::chunk;
-pub use reads::chunk_refusal;
-pub use reads::read;
-pub use reads::total;
+// One container of the SIONlib file format over memory that the caller lends: all entries, with what is promised of them together.
+pub use reading::chunk;
+pub use reading::chunk_refusal;
+pub use reading::load;
+pub use reading::part;
+pub use reading::read;
+pub use reading::total;
 pub use session::close;
+pub use session::needs;
 pub use session::open;
 pub use session::write;

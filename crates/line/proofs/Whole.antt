@@ -18,10 +18,10 @@ use Rattle.meta.specs.Meta1.{tasksField}
 use Rattle.meta.specs.Heads.{headOf}
 use Rattle.meta.specs.Judge.{bigIn, tasksIn, headIn}
 use Rattle.meta.proofs.Refusals.{when-accepted}
-use Rattle.container.specs.declared.record.Checked.{Checked}
-use Rattle.container.specs.Load.{loadRefusal, loadedIn, loadAnswer, loadTable}
-use Rattle.container.specs.Reads.{containerOf}
-use Rattle.container.proofs.LoadTests.{load-holds}
+use Rattle.reading.specs.declared.record.Checked.{Checked}
+use Rattle.reading.specs.Load.{loadRefusal, loadedIn, loadAnswer, loadTable}
+use Rattle.reading.specs.Reads.{containerOf}
+use Rattle.reading.proofs.LoadTests.{load-holds}
 use Rattle.container.proofs.Refusing.{load-number}
 use Rattle.line.specs.Line.{decimal, space, spaced, cells, totalsOf, loaded, rest, lineOf}
 use Rattle.endian.proofs.Splice.{Put, put-is}

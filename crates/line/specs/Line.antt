@@ -8,9 +8,9 @@ use lib.IntN.{ℤ, pos}
 use lib.ListN.{replicate}
 use Rattle.endian.specs.Below.{listBelow}
 use Rattle.io.specs.Digits.{digits}
-use Rattle.container.specs.declared.record.Checked.{Checked}
-use Rattle.container.specs.Load.{loadAnswer, loadTable}
-use Rattle.container.specs.Reads.{Container, containerOf, totalAnswer}
+use Rattle.reading.specs.declared.record.Checked.{Checked}
+use Rattle.reading.specs.Load.{loadAnswer, loadTable}
+use Rattle.reading.specs.Reads.{Container, containerOf, totalAnswer}
 
 -- how many decimal digits a number has, which needs no more than `most` of them after the first, and its digits
 abbrev pub places : ℕ → ℕ → ℕ

@@ -6,11 +6,11 @@ ghost use Prim.Native.Nat.{_+_, _*_, _≤_};
 ghost use lib.ListN.{length};
 ghost use Rattle.endian.specs.Splice.{splice};
 ghost use Rattle.io.specs.Counts.{Counts};
-ghost use Rattle.container.specs.declared.record.Loaded.{Loaded};
-ghost use Rattle.container.specs.Reads.{containerOf};
+ghost use Rattle.reading.specs.declared.record.Loaded.{Loaded};
+ghost use Rattle.reading.specs.Reads.{containerOf};
 ghost use Rattle.line.specs.Line.{decimal, space, spaced, totalsOf, lineOf};
-use container::record::Loaded;
 use endian::store;
+use reading::record::Loaded;
 
 pub mod input;
 

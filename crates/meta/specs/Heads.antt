@@ -79,29 +79,25 @@ recordTests closed sound h m counts image table =
 abbrev pub isTask : ℕ → ℕ → Bool
 isTask n task = within 1 n (pos task)
 
--- ---- the place where a head is made
+-- ---- the places where a head is made
 
-unfoldable pub headOf : ℕ → ℤ → ℤ → ℕ → ℕ → (ℕ → ℕ) → (ℕ → ℕ) → Head
-headOf order version patch blocksize n rank size =
+-- of the fields that are given
+abbrev pub headWith : ℕ → ℤ → ℤ → ℕ → ℕ → List ℕ → List ℕ → Head
+headWith order version patch blocksize n ranks sizes =
     record {
       order = order;
       version = version;
       patch = patch;
       blocksize = blocksize;
       n = n;
-      ranks = filled n rank;
-      sizes = filled n size;
+      ranks = ranks;
+      sizes = sizes;
     }
+
+-- of the first n numbers of two lists
+unfoldable pub headOf : ℕ → ℤ → ℤ → ℕ → ℕ → (ℕ → ℕ) → (ℕ → ℕ) → Head
+headOf order version patch blocksize n rank size = headWith order version patch blocksize n (filled n rank) (filled n size)
 
 -- the head of "a record of zeros"
 abbrev pub noHead : Head
-noHead =
-    record {
-      order = 0;
-      version = pos 0;
-      patch = pos 0;
-      blocksize = 0;
-      n = 0;
-      ranks = replicate maxTasks 0;
-      sizes = replicate maxTasks 0;
-    }
+noHead = headWith 0 (pos 0) (pos 0) 0 0 (replicate maxTasks 0) (replicate maxTasks 0)

@@ -13,7 +13,7 @@ ghost use Rattle.layout.specs.Areas.{capacity, meta2Length};
 ghost use Rattle.meta.specs.declared.head.Head.{Head};
 ghost use Rattle.meta.specs.declared.second.Second.{Second};
 ghost use Rattle.meta.specs.Meta2.{valueRule, valuesRule, valueField};
-ghost use Rattle.meta.specs.Heads.{entry, cell, holds, cellsAgree};
+ghost use Rattle.meta.specs.Heads.{entry, cell, holds};
 ghost use Rattle.meta.specs.Judge.{secondOf};
 use crate::first;
 use crate::head::Head;
@@ -150,16 +150,22 @@ fn cell_row_ok<'a>(
 }
 
 // The cells of all m chunks of a record, by META2's rule.
-pub fn cells_ok(table: &[i64], h: Head, counts: &[u64], m: u32) -> bool
-    requires { ⌜ Sound (h .blocksize) (h .n) (h .sizes) × (m ≤ maxBlocks) ⌝ }
-    requires { ⌜ (h .n ≤ length (now counts)) × (h .n * m ≤ length (now table)) ⌝ }
-    ensures { λ r. ⌜ r ≡ cellsAgree h m (now (counts .entry)) (now (table .entry)) ⌝ }
+pub fn cells_ok<'a>(
+    table: &[i64],
+    n: usize,
+    blocksize: u32,
+    sizes: &'a [u64],
+    counts: &'a [u64],
+    m: u32,
+) -> bool
+    requires { ⌜ Sound blocksize n (now sizes) × (m ≤ maxBlocks) ⌝ }
+    requires { ⌜ (n ≤ length (now counts)) × (n * m ≤ length (now table)) ⌝ }
+    ensures { λ r. ⌜ r ≡ valuesRule n m (λ i. capacity blocksize (getD (now (sizes .entry)) i 0)) (λ i. getD (now (counts .entry)) i 0) (λ j. getD (now (table .entry)) j (pos 0)) ⌝ }
 {
-    let n = h.n as usize;
     let mut at = 0;
     let mut k = 0;
     while k < m {
-        if !cell_row_ok(table, at, k as u64, n, h.blocksize, &h.sizes, counts) {
+        if !cell_row_ok(table, at, k as u64, n, blocksize, sizes, counts) {
             return false;
         }
         at += n;

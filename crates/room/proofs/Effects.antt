@@ -45,6 +45,7 @@ module _ {b : Book} {st : State} (f : Own b st) (q : Request) where
       follows = rw (quiet same) (subst (λ (x : State). Follows (st .session .head) (st .session .planned) b x) (sym e) f);
       table-as-long = ap (λ (x : State). length (x .table)) e;
       other-cells = λ j l. ap (λ (x : State). cell (x .table) j) e;
+      other-counts = λ i l. ap (λ (x : State). entry (x .session .counts) i) e;
     },
     λ i k l d. ap (λ (x : State). cell (x .table) (valueIndex (st .session .head .n) k i)) e,
   )
@@ -181,6 +182,9 @@ module _ {b : Book} {st : State} (f : Own b st) (q : Request) where
                 (stored-follows long);
             table-as-long = ap (λ (x : State). length (x .table)) e ∙ rw table-is (length-set (st .table) cellAt (pos (x .w)));
             other-cells = λ j l. ap (λ (x : State). cell (x .table) j) e ∙ other-index j (λ z. omega (arith, cellAt-lt));
+            other-counts =
+                λ i l. ap (λ (x : State). entry (x .session .counts) i) e
+                ∙ rw counts-is (getD-set-other (st .session .counts) (q .task - 1) i (x .u) 0 (λ z. omega arith));
           },
           λ i k l d.
               ap (λ (x : State). cell (x .table) (valueIndex (st .session .head .n) k i)) e

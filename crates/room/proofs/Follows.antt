@@ -76,6 +76,7 @@ pub record Step (h : Head) (K : ℕ) (b : Book) (st : State) (q : Request) : Typ
   pub follows : Follows h K (told (planIn h K) b (askOf q)) (afterWrite st q)
   pub table-as-long : length (afterWrite st q .table) ≡ length (st .table)
   pub other-cells : (j : ℕ) → h .n * K ≤ j → cell (afterWrite st q .table) j ≡ cell (st .table) j
+  pub other-counts : (i : ℕ) → h .n ≤ i → entry (afterWrite st q .session .counts) i ≡ entry (st .session .counts) i
 
 -- so does a list of writes
 pub record Runs (h : Head) (K : ℕ) (b : Book) (st : State) (qs : List Request) : Type 0 where
@@ -84,6 +85,7 @@ pub record Runs (h : Head) (K : ℕ) (b : Book) (st : State) (qs : List Request)
   pub follows : Follows h K (toldAll (planIn h K) b (asks qs)) (writes st qs)
   pub table-as-long : length (writes st qs .table) ≡ length (st .table)
   pub other-cells : (j : ℕ) → h .n * K ≤ j → cell (writes st qs .table) j ≡ cell (st .table) j
+  pub other-counts : (i : ℕ) → h .n ≤ i → entry (writes st qs .session .counts) i ≡ entry (st .session .counts) i
 
 -- a cell that is not the last of the write's task after it is as it was
 abbrev pub CellsKept : Head → ℕ → Book → State → Request → Type 0

@@ -187,7 +187,14 @@ module _ {h : Head} {K : ℕ} where
     cells-kept q = own-as st (λ h K. CellsKept h K b st q) (f .head-is) (f .planned-is) (own-step own q .1)
 
   pub runs : {b : Book} {st : State} → Follows h K b st → (qs : List Request) → Runs h K b st qs
-  runs f [] = record { numbers-are = refl; image-is = refl; follows = f; table-as-long = refl; other-cells = λ j l. refl }
+  runs f [] = record {
+    numbers-are = refl;
+    image-is = refl;
+    follows = f;
+    table-as-long = refl;
+    other-cells = λ j l. refl;
+    other-counts = λ i l. refl;
+  }
   runs {b} f (q ∷ qs) =
       let s = step f q in
       let r = runs (s .follows) qs in
@@ -197,4 +204,5 @@ module _ {h : Head} {K : ℕ} where
         follows = r .follows;
         table-as-long = r .table-as-long ∙ s .table-as-long;
         other-cells = λ j l. r .other-cells j l ∙ s .other-cells j l;
+        other-counts = λ i l. r .other-counts i l ∙ s .other-counts i l;
       }

@@ -1,14 +1,15 @@
 -- The tests of an opening as facts: what holds of its arguments where they pass, that its head is then sound, and what it leaves.
 -- Assumes nothing.
-use mathlib.Core.Path.{_≡_, refl, sym, subst, _∙_}
-use mathlib.Core.Bool.{true, not}
+use mathlib.Core.Path.{_≡_, refl, sym, ap, subst, _∙_}
+use mathlib.Core.Bool.{Bool, true, false, not, _||_}
 use mathlib.Core.List.{List, [], _∷_}
+use mathlib.Core.Logic.{_⊎_, inl, inr}
 use Prim.Native.Nat.{ℕ, _*_, _≤_, _<_}
 use native.Mathlib.Omega.{arith}
 use lib.Dec.{ltb}
 use lib.IntN.{ℤ, pos}
 use lib.ListN.{length, replicate}
-use borrow.Author.Tests.{ltb-false, eqb-true, not-false}
+use borrow.Author.Tests.{lt-ltb, le-ltb, ltb-false, eqb-true, not-false}
 use Rattle.endian.specs.Splice.{splice}
 use Rattle.endian.proofs.Below.{or-left, or-right}
 use Rattle.endian.proofs.Signed.{within-facts}
@@ -18,11 +19,12 @@ use Rattle.meta.specs.Refusals.{Test, test, firstFailing}
 use Rattle.meta.specs.Meta1.{prefixLength, openingBytes}
 use Rattle.meta.specs.Meta2.{unused}
 use Rattle.meta.specs.Heads.{entry, isOrder, headSound, tooShort, endAt, headOf}
-use Rattle.meta.proofs.Refusals.{Numbered, first-passes, first-fails, both-pass, none-fails, when-accepted, when-refused}
+use Rattle.meta.proofs.Refusals.{Numbered, first-passes, first-fails, both-pass, none-fails, when-accepted, when-refused, number-is}
 use Rattle.meta.proofs.Fields.{tasks-facts}
 use Rattle.meta.proofs.Filled.{filled-list}
 use Rattle.meta.proofs.Heads.{endAt-made}
-use Rattle.session.specs.Open.{Opening, tasks, shapeTests, numberTests, planTests, openRefusal, openHead, openSession}
+use Rattle.session.specs.declared.record.Needed.{Needed}
+use Rattle.session.specs.Open.{Opening, tasks, shapeTests, numberTests, planTests, needsAnswer, openRefusal, openHead, openSession}
 use Rattle.session.specs.Records.{noSession}
 use Rattle.session.specs.Open.{opens, openAnswer, openImage, openTable}
 
@@ -126,40 +128,63 @@ module _ (o : Opening) where
   unfolding openHead headOf endAt meta2End meta2Start
   opening-data h = omega (arith, h .image-long)
 
-  -- what is answered, by the tests that led there
+  -- the plan's number, by the tests that led there
+  abbrev shape : List Test
+  shape = shapeTests (o .order) (o .blocksize) (tasks o) (length (o .sizes)) (length (o .prefix))
+
+  abbrev number : List Test
+  number = numberTests (o .ranks) (o .sizes) (o .planned)
+
+  pub plan-shape : 0 < firstFailing shape → firstFailing (planTests o) ≡ firstFailing shape
+  unfolding planTests
+  plan-shape = first-fails shape number
+
+  pub plan-number : firstFailing shape ≡ 0 → firstFailing (planTests o) ≡ firstFailing number
+  unfolding planTests shapeTests
+  plan-number = first-passes shape number (omega arith)
+
+  -- what an opening needs, by that number
+  pub needs-refused : 0 < firstFailing (planTests o) → needsAnswer o ≡ record { refusal = firstFailing (planTests o); image = 0; cells = 0 }
+  unfolding needsAnswer
+  needs-refused = when-refused _ _ _
+
+  pub needs-lengths : firstFailing (planTests o) ≡ 0
+      → needsAnswer o
+      ≡ record { refusal = 0; image = meta2End (o .blocksize) (tasks o) (entry (o .sizes)) (o .planned); cells = tasks o * o .planned }
+  unfolding needsAnswer
+  needs-lengths = when-accepted _ _ _
+
+  pub needs-number : needsAnswer o .refusal ≡ firstFailing (planTests o)
+  unfolding needsAnswer
+  needs-number = number-is (firstFailing (planTests o)) _ _ (λ (a : Needed). a .refusal) refl refl
+
+  -- and what is then answered for an image and a table of these lengths
   module _ (imageLength cells : ℕ) where
-    abbrev shape : List Test
-    shape = shapeTests (o .order) (o .blocksize) (tasks o) (length (o .sizes)) (length (o .prefix))
+    pub open-plan : 0 < needsAnswer o .refusal → openRefusal o imageLength cells ≡ needsAnswer o .refusal
+    unfolding openRefusal
+    open-plan some = first-fails (planTests o) _ (rw needs-number at some) ∙ sym needs-number
 
-    abbrev number : List Test
-    number = numberTests (o .ranks) (o .sizes) (o .planned)
+    module _ (none : needsAnswer o .refusal ≡ 0) where
+      open-lengths : openRefusal o imageLength cells
+          ≡ firstFailing (test 18 (ltb imageLength (needsAnswer o .image) || ltb cells (needsAnswer o .cells)) ∷ [])
+      unfolding openRefusal tooShort
+      open-lengths =
+          let e = sym needs-number ∙ none in
+          first-passes (planTests o) _ plan-numbered e
+          ∙ ap (λ (a : Needed). firstFailing (test 18 (ltb imageLength (a .image) || ltb cells (a .cells)) ∷ [])) (sym (needs-lengths e))
 
-    shape-numbered : Numbered shape
-    unfolding shapeTests
-    shape-numbered = omega arith
+      pub open-short : (imageLength < needsAnswer o .image) ⊎ (cells < needsAnswer o .cells) → openRefusal o imageLength cells ≡ 18
+      unfolding firstFailing
+      open-short (inl l) = open-lengths ∙ rw (lt-ltb imageLength (needsAnswer o .image) l)
+      open-short (inr l) = open-lengths ∙ rw (lt-ltb cells (needsAnswer o .cells) l) (go (ltb imageLength (needsAnswer o .image)))
+        where
+          go : (b : Bool) → firstFailing (test 18 (b || true) ∷ []) ≡ 18
+          go true = refl
+          go false = refl
 
-    pub refused-shape : 0 < firstFailing shape → openRefusal o imageLength cells ≡ firstFailing shape
-    unfolding openRefusal planTests
-    refused-shape some =
-        let e = first-fails shape number some in
-        first-fails (planTests o) _ (omega arith) ∙ e
-
-    module _ (first : firstFailing shape ≡ 0) where
-      pub refused-number : 0 < firstFailing number → openRefusal o imageLength cells ≡ firstFailing number
-      unfolding openRefusal planTests
-      refused-number some =
-          let e = first-passes shape number shape-numbered first in
-          first-fails (planTests o) _ (omega arith) ∙ e
-
-      pub plan-passes : firstFailing number ≡ 0 → firstFailing (planTests o) ≡ 0
-      unfolding planTests
-      plan-passes second = first-passes shape number shape-numbered first ∙ second
-
-      pub asked-short : firstFailing number ≡ 0
-          → openRefusal o imageLength cells
-          ≡ firstFailing (test 18 (tooShort (o .blocksize) (tasks o) (entry (o .sizes)) (o .planned) imageLength cells) ∷ [])
-      unfolding openRefusal
-      asked-short second = first-passes (planTests o) _ plan-numbered (plan-passes second)
+      pub open-enough : needsAnswer o .image ≤ imageLength → needsAnswer o .cells ≤ cells → openRefusal o imageLength cells ≡ 0
+      unfolding firstFailing
+      open-enough i t = open-lengths ∙ rw (le-ltb imageLength (needsAnswer o .image) i, le-ltb cells (needsAnswer o .cells) t)
 
   -- what an accepted opening leaves
   module _ (image : List ℕ) (table : List ℤ) (accepted : openRefusal o (length image) (length table) ≡ 0) where

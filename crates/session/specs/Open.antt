@@ -7,9 +7,11 @@ use lib.IntN.{ℤ, pos}
 use lib.ListN.{length, replicate}
 use Rattle.endian.specs.Splice.{splice}
 use Rattle.layout.specs.Limits.{maxTasks, blocksizeRule, tasksRule, ranksRule, sizesRule, plannedRule}
+use Rattle.layout.specs.Areas.{meta2End}
 use Rattle.meta.specs.declared.head.Head.{Head}
 use Rattle.session.specs.declared.record.Session.{Session}
-use Rattle.session.specs.declared.record.Written.{Written}
+use Rattle.session.specs.declared.record.Needed.{Needed}
+use Rattle.session.specs.declared.record.Started.{Started}
 use Rattle.meta.specs.Refusals.{Test, test, firstFailing}
 use Rattle.meta.specs.Meta1.{prefixLength, openingBytes}
 use Rattle.meta.specs.Meta2.{unused}
@@ -67,6 +69,13 @@ module _ (o : Opening) where
       shapeTests (o .order) (o .blocksize) tasks (length (o .sizes)) (length (o .prefix))
       ++ numberTests (o .ranks) (o .sizes) (o .planned)
 
+  -- what an opening is refused with whatever it is lent, or else the lengths below which it is refused with 18
+  unfoldable pub needsAnswer : Needed
+  needsAnswer =
+      cond (eqb (firstFailing planTests) 0)
+      (record { refusal = 0; image = meta2End (o .blocksize) tasks (entry (o .sizes)) (o .planned); cells = tasks * o .planned })
+      (record { refusal = firstFailing planTests; image = 0; cells = 0 })
+
   -- then 18: "The image needs D + K·G + 8n(1+K) bytes", the table "at least n times K" cells
   unfoldable pub openRefusal : ℕ → ℕ → ℕ
   openRefusal imageLength cells =
@@ -84,7 +93,7 @@ module _ (o : Opening) where
     unfoldable pub opens : Bool
     opens = eqb (openRefusal (length image) (length table)) 0
 
-    unfoldable pub openAnswer : Written
+    unfoldable pub openAnswer : Started
     openAnswer =
         cond opens (record { refusal = 0; session = openSession })
         (record { refusal = openRefusal (length image) (length table); session = noSession })

@@ -10,8 +10,9 @@ use Rattle.endian.specs.Below.{allBelow}
 use Rattle.layout.specs.Limits.{maxTasks, plannedRule}
 use Rattle.meta.specs.declared.head.Head.{Head}
 use Rattle.meta.specs.Refusals.{Test}
-use Rattle.meta.specs.Heads.{entry, headSound, recordTests, noHead}
+use Rattle.meta.specs.Heads.{entry, headSound, recordTests, headWith, noHead}
 use Rattle.session.specs.declared.record.Session.{Session}
+use Rattle.session.specs.declared.record.Facts.{Facts}
 
 pub record State : Type 0 where
   pub session : Session
@@ -36,6 +37,11 @@ sessionTests st =
 
 abbrev pub sessionOf : Head → List ℕ → ℕ → ℕ → Session
 sessionOf head counts planned closed = record { head = head; counts = counts; planned = planned; closed = closed }
+
+-- the session whose numbers and lists are lent to a write, with any two version numbers
+abbrev pub sessionIn : Facts → List ℕ → List ℕ → List ℕ → ℤ → ℤ → Session
+sessionIn f ranks sizes counts version patch =
+    sessionOf (headWith (f .order) version patch (f .blocksize) (f .n) ranks sizes) counts (f .planned) (f .closed)
 
 -- "a record of zeros marked closed"
 abbrev pub noSession : Session

@@ -8,7 +8,6 @@ use lib.IntN.{pos}
 use lib.ListN.{length, set}
 use Rattle.endian.specs.Signed.{natural}
 use Rattle.endian.specs.Splice.{splice}
-use Rattle.session.specs.declared.record.Written.{Written}
 use Rattle.session.specs.declared.writing.Decision.{Decision}
 use Rattle.meta.specs.Refusals.{Test, test, firstFailing}
 use Rattle.meta.specs.Meta2.{valueIndex}
@@ -88,9 +87,6 @@ module _ (st : State) (q : Request) where
   -- "Empty: accepted, nothing changes"; and nothing changes where it is refused
   unfoldable pub afterWrite : State
   afterWrite = cond (eqb writeRefusal 0 && not (eqb (length (q .bytes)) 0)) stored st
-
-  abbrev pub writeAnswer : Written
-  writeAnswer = record { refusal = writeRefusal; session = afterWrite .session }
 
 -- ---- a list of writes, each to what the last one left: the state in the end, and the answers in order
 

@@ -10,6 +10,7 @@ ghost use Rattle.session.specs.declared.record.Closed.{Closed};
 ghost use Rattle.session.specs.Records.{stateOf};
 ghost use Rattle.session.specs.Close.{finished, closeAnswer, closeImage};
 use crate::record::Closed;
+use crate::record::Facts;
 use crate::record::Session;
 use crate::sound;
 use meta::head::Head;
@@ -34,7 +35,15 @@ pub fn close(s: Session, image: &mut [u8], table: &[i64]) -> Closed
     ensures { λ r. ⌜ r ≡ closeAnswer (stateOf s (now (image .entry)) (now (table .entry))) ⌝ }
     ensures { λ _. ⌜ now (image .exit) ≡ closeImage (stateOf s (now (image .entry)) (now (table .entry))) ⌝ }
 {
-    let refusal = sound::session_refusal(s, image, table);
+    let h = s.head;
+    let facts = Facts {
+        order: h.order,
+        blocksize: h.blocksize,
+        n: h.n,
+        planned: s.planned,
+        closed: s.closed,
+    };
+    let refusal = sound::session_refusal(facts, &h.ranks, &h.sizes, &s.counts, image, table);
     if refusal != 0 {
         return Closed {
             refusal,
@@ -42,7 +51,6 @@ pub fn close(s: Session, image: &mut [u8], table: &[i64]) -> Closed
             length: 0,
         };
     }
-    let h = s.head;
     let maxchunks = rule::greatest(&s.counts, h.n as usize) as u32;
     let length = finish(h, &s.counts, maxchunks, image, table);
     let mut next = s;

@@ -6,5 +6,6 @@ mod sound;
 mod writing;
 
 pub use closing::close;
+pub use opening::needs;
 pub use opening::open;
 pub use writing::write;

@@ -9,11 +9,13 @@ ghost use Rattle.meta.specs.declared.head.Head.{Head};
 ghost use Rattle.meta.specs.Refusals.{firstFailing};
 ghost use Rattle.meta.specs.Meta2.{unused};
 ghost use Rattle.meta.specs.Heads.{entry, filled, headOf};
-ghost use Rattle.session.specs.declared.record.Written.{Written};
+ghost use Rattle.session.specs.declared.record.Needed.{Needed};
+ghost use Rattle.session.specs.declared.record.Started.{Started};
 ghost use Rattle.session.specs.Records.{noSession};
-ghost use Rattle.session.specs.Open.{openingOf, shapeTests, numberTests, openRefusal, openAnswer, openImage, openTable};
+ghost use Rattle.session.specs.Open.{openingOf, shapeTests, numberTests, needsAnswer, openRefusal, openAnswer, openImage, openTable};
+use crate::record::Needed;
 use crate::record::Session;
-use crate::record::Written;
+use crate::record::Started;
 use layout::limit;
 use layout::limit::MAX_TASKS;
 use meta::head;
@@ -24,12 +26,12 @@ use meta::refusal;
 const PREFIX: usize = 1024;
 
 // A refusal beside a record of zeros marked closed.
-fn refused(refusal: u32) -> Written
+fn refused(refusal: u32) -> Started
     ensures { λ r. ⌜ r ≡ record { refusal = refusal; session = noSession } ⌝ }
 {
     let counts = [0; MAX_TASKS];
     let head = head::no_head();
-    Written {
+    Started {
         refusal,
         session: Session {
             head,
@@ -83,7 +85,44 @@ fn number_refusal(ranks: &[u64], sizes: &[u64], planned: u32) -> u32
     0
 }
 
-// The plan's tests, then 18: none looks at the two version numbers.
+// What an opening needs of the image and the table that it is lent, or the number that it gets whatever it is lent. Tests 2, 5, 6, 21, 8, 9
+// and 20, in this order: none looks at the two version numbers.
+pub fn needs(
+    order: u32,
+    blocksize: u32,
+    ranks: &[u64],
+    sizes: &[u64],
+    prefix: &[u8],
+    planned: u32,
+) -> Needed
+    ensures { λ r. ⌜ ((version patch : ℤ) → r ≡ needsAnswer (openingOf order version patch blocksize (now (ranks .entry)) (now (sizes .entry)) (now (prefix .entry)) planned)) ⌝ }
+{
+    let shape = shape_refusal(order, blocksize, ranks.len(), sizes.len(), prefix.len());
+    if shape != 0 {
+        return Needed {
+            refusal: shape,
+            image: 0,
+            cells: 0,
+        };
+    }
+    let number = number_refusal(ranks, sizes, planned);
+    if number != 0 {
+        return Needed {
+            refusal: number,
+            image: 0,
+            cells: 0,
+        };
+    }
+    let n = ranks.len() as u32;
+    let image = layout::meta2_end(sizes, n, blocksize, planned);
+    Needed {
+        refusal: 0,
+        image,
+        cells: n as u64 * planned as u64,
+    }
+}
+
+// The plan's tests, then 18.
 fn open_refusal(
     order: u32,
     blocksize: u32,
@@ -96,19 +135,14 @@ fn open_refusal(
 ) -> u32
     ensures { λ r. ⌜ ((version patch : ℤ) → r ≡ openRefusal (openingOf order version patch blocksize (now (ranks .entry)) (now (sizes .entry)) (now (prefix .entry)) planned) image cells) ⌝ }
 {
-    let shape = shape_refusal(order, blocksize, ranks.len(), sizes.len(), prefix.len());
-    if shape != 0 {
-        return shape;
+    let needed = needs(order, blocksize, ranks, sizes, prefix, planned);
+    if needed.refusal != 0 {
+        return needed.refusal;
     }
-    let number = number_refusal(ranks, sizes, planned);
-    if number != 0 {
-        return number;
-    }
-    let n = ranks.len() as u32;
-    if image < layout::meta2_end(sizes, n, blocksize, planned) {
+    if image < needed.image {
         return refusal::TOO_SHORT;
     }
-    if cells < n as u64 * planned as u64 {
+    if cells < needed.cells {
         return refusal::TOO_SHORT;
     }
     0
@@ -178,7 +212,7 @@ pub fn open(
     planned: u32,
     image: &mut [u8],
     table: &mut [i64],
-) -> Written
+) -> Started
     ensures { λ r. ⌜ r ≡ openAnswer (openingOf order version patch blocksize (now (ranks .entry)) (now (sizes .entry)) (now (prefix .entry)) planned) (now (image .entry)) (now (table .entry)) ⌝ }
     ensures { λ _. ⌜ now (image .exit) ≡ openImage (openingOf order version patch blocksize (now (ranks .entry)) (now (sizes .entry)) (now (prefix .entry)) planned) (now (image .entry)) (now (table .entry)) ⌝ }
     ensures { λ _. ⌜ now (table .exit) ≡ openTable (openingOf order version patch blocksize (now (ranks .entry)) (now (sizes .entry)) (now (prefix .entry)) planned) (now (image .entry)) (now (table .entry)) ⌝ }
@@ -200,7 +234,7 @@ pub fn open(
     emit::meta1(image, head, prefix);
     mark_unused(table, ranks.len() * planned as usize);
     let counts = [0; MAX_TASKS];
-    Written {
+    Started {
         refusal: 0,
         session: Session {
             head,

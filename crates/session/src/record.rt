@@ -11,9 +11,27 @@ pub struct Session {
     pub closed: u32,
 }
 
-// What opening and a write answer.
+// What an opening needs: the bytes of its image and the cells of its table.
 #[repr(C)]
-pub struct Written {
+pub struct Needed {
+    pub refusal: u32,
+    pub image: u64,
+    pub cells: u64,
+}
+
+// The numbers of a session's record that a write goes by. The record's three lists are lent beside them, so that no record is copied.
+#[repr(C)]
+pub struct Facts {
+    pub order: u32,
+    pub blocksize: u32,
+    pub n: u32,
+    pub planned: u32,
+    pub closed: u32,
+}
+
+// What opening answers.
+#[repr(C)]
+pub struct Started {
     pub refusal: u32,
     pub session: Session,
 }

@@ -1,11 +1,11 @@
 // Runs stored containers: for each file that an argument names, prints its name, the line about it and, if it is accepted, the Adler-32
 // (RFC 1950) of all its chunks' parts and of all its tasks' streams, and what a load answers whose table has one cell too few.
 ghost use Rattle.io.specs.Counts.{Counts};
-use container::record::Loaded;
 use line::LINE;
 use line::input;
 use line::input::INPUT;
 use line::input::LONGEST;
+use reading::record::Loaded;
 
 const CELLS: usize = 2_048;
 

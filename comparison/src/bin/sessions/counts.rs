@@ -1,7 +1,7 @@
 //! Holds how often each number was the answer.
 
-/// What opening, writing and closing can answer beside 0.
-const NUMBERS: [usize; 13] = [2, 5, 6, 8, 9, 14, 15, 16, 17, 18, 19, 20, 21];
+/// What opening, writing, closing and the reads can answer beside 0.
+const NUMBERS: [usize; 15] = [2, 5, 6, 8, 9, 14, 15, 16, 17, 18, 19, 20, 21, 22, 23];
 
 #[derive(Default)]
 pub struct Counts {

@@ -94,7 +94,7 @@ impl Course {
         same("close, the answer", number, 0)?;
         let blocks = copy.session().head.counts.iter().max().map_or(0, |&most| most);
         same("close, the length by the paper", length, self.plan.end(blocks))?;
-        reload(&copy, length, &self.accepted, rng)
+        reload(&copy, length, &self.accepted, rng, counts)
             .map_err(|difference| format!("the closed container, {difference}"))?;
         Ok(copy)
     }

@@ -1,4 +1,5 @@
-//! Holds the comparison of random sessions: the library against the reference, and against the tally of demand 3, call by call.
+//! Holds the comparison of random sessions and of what is read of them: the library against the reference, and against the tally of
+//! demand 3, call by call.
 
 mod counts;
 mod course;
@@ -6,6 +7,7 @@ mod drawn;
 mod hostile;
 mod numbers;
 mod plan;
+mod reads;
 mod reload;
 mod same;
 mod twin;

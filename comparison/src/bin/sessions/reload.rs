@@ -1,15 +1,24 @@
 //! Holds the load of a closed session's container: it has the session's fields and each task's accepted bytes.
 
+use crate::counts::Counts;
+use crate::reads::{self, Opened};
 use crate::same::{same, same_list, same_loaded};
 use crate::twin::Twin;
-use comparison::{Head, Loaded};
+use comparison::{head_of, loaded_of};
 use reference::Rng;
+use sion::raw::{self, Loaded};
 
 /// The most bytes behind the container.
 const BEHIND: usize = 50;
 
-/// Loads the first bytes of the image, with random ones behind them, on both sides, and reads every task.
-pub fn reload(twin: &Twin, length: u64, accepted: &[Vec<u8>], rng: &mut Rng) -> Result<(), String> {
+/// Loads the first bytes of the image, with random ones behind them, and reads every task, on both sides.
+pub fn reload(
+    twin: &Twin,
+    length: u64,
+    accepted: &[Vec<u8>],
+    rng: &mut Rng,
+    counts: &mut Counts,
+) -> Result<(), String> {
     let behind = rng.below(BEHIND + 1);
     let image = [&twin.image()[..length as usize], &rng.bytes(behind)].concat();
     let wanted = expected(twin);
@@ -17,7 +26,7 @@ pub fn reload(twin: &Twin, length: u64, accepted: &[Vec<u8>], rng: &mut Rng) -> 
     let before: Vec<i64> = (0..cells + rng.below(5)).map(|_| rng.number() as i64).collect();
 
     let mut table = before.clone();
-    let answer = comparison::load(&image, &mut table);
+    let answer = raw::load(&image, &mut table);
     same("answer to the load", answer.refusal, 0)?;
     same_loaded(&answer.loaded, &wanted)?;
     same_list("loaded cells", &table, &[&twin.table()[..cells], &before[cells..]].concat())?;
@@ -25,19 +34,19 @@ pub fn reload(twin: &Twin, length: u64, accepted: &[Vec<u8>], rng: &mut Rng) -> 
     let mut table = before;
     let loaded = reference::load(&image, &mut table)
         .map_err(|number| format!("the reference refuses the load with {number}"))?;
-    same_loaded(&answer.loaded, &Loaded::from(&loaded))?;
+    same_loaded(&answer.loaded, &loaded_of(&loaded))?;
     for (task, bytes) in (1..).zip(accepted) {
         let mut out = vec![0; bytes.len() + 1];
         let count = reference::read(&loaded, &image, &table, task, 0, &mut out);
         same(&format!("bytes read of task {task}"), count, Ok(bytes.len() as u64))?;
         same_list(&format!("the stream of task {task}"), &out[..bytes.len()], bytes)?;
     }
-    Ok(())
+    reads::compare(&Opened { record: loaded, image, table }, rng, counts)
 }
 
 /// The record that the load of a closed session's container gives.
 fn expected(twin: &Twin) -> Loaded {
     let head = &twin.session().head;
     let maxchunks = head.counts.iter().max().map_or(0, |&most| most as u32);
-    Loaded { head: Head::from(head), counts: head.counts, maxchunks, closed: 0 }
+    Loaded { head: head_of(head), counts: head.counts, maxchunks, closed: 0 }
 }

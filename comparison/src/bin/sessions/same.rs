@@ -1,6 +1,6 @@
 //! Holds the comparisons: each passes, or says in words what the library has and what is wanted by the reference or the paper.
 
-use comparison::{Head, Loaded, Session};
+use sion::raw::{Head, Loaded, Session};
 use std::fmt::Debug;
 
 pub fn same<T: PartialEq + Debug>(what: &str, library: T, wanted: T) -> Result<(), String> {

@@ -2,8 +2,9 @@
 
 use crate::plan::Plan;
 use crate::same::{same, same_list, same_session};
-use comparison::Session;
+use comparison::session_of;
 use reference::Rng;
+use sion::raw::{self, Session};
 
 /// Bytes and cells behind the lent ones, which no call may change either.
 const BEHIND: usize = 8;
@@ -35,6 +36,7 @@ impl Twin {
         let (number, reference) = reference_open(plan, image, table);
         let twin = Twin { library, reference, bytes, cells };
         twin.agree("opening", answer, number)?;
+        needs(plan, number)?;
         Ok((number, twin))
     }
 
@@ -42,21 +44,20 @@ impl Twin {
     pub fn write(&mut self, task: u64, bytes: &[u8]) -> Result<u32, String> {
         let Side { session, image, table } = &mut self.library;
         let (image, table) = (&mut image[..self.bytes], &mut table[..self.cells]);
-        let written = comparison::write(*session, image, table, task, bytes);
-        *session = written.session;
+        let answer = raw::write(session, image, table, task, bytes);
 
         let Side { session, image, table } = &mut self.reference;
         let (image, table) = (&mut image[..self.bytes], &mut table[..self.cells]);
         let number = reference::write(session, image, table, task, bytes).err().unwrap_or(0);
         let call = format!("write of {} bytes to task {task}", bytes.len());
-        self.agree(&call, written.refusal, number)?;
+        self.agree(&call, answer, number)?;
         Ok(number)
     }
 
     /// Closes the session, and gives the answer and the length.
     pub fn close(&mut self) -> Result<(u32, u64), String> {
         let Side { session, image, table } = &mut self.library;
-        let closed = comparison::close(*session, &mut image[..self.bytes], &table[..self.cells]);
+        let closed = raw::close(*session, &mut image[..self.bytes], &table[..self.cells]);
         *session = closed.session;
 
         let Side { session, image, table } = &mut self.reference;
@@ -85,7 +86,7 @@ impl Twin {
     /// Changes the record on both sides.
     pub fn change_record(&mut self, change: impl FnOnce(&mut reference::Session)) {
         change(&mut self.reference.session);
-        self.library.session = Session::from(&self.reference.session);
+        self.library.session = session_of(&self.reference.session);
     }
 
     /// Sets a cell on both sides.
@@ -97,7 +98,7 @@ impl Twin {
     /// The answers to a call and all that it left: the records, the images and the tables.
     fn agree(&self, call: &str, library: u32, reference: u32) -> Result<(), String> {
         let (ours, theirs) = (&self.library, &self.reference);
-        let record = Session::from(&theirs.session);
+        let record = session_of(&theirs.session);
         same("the answer", library, reference)
             .and_then(|()| same_session(&ours.session, &record))
             .and_then(|()| same_list("the image", &ours.image, &theirs.image))
@@ -106,9 +107,20 @@ impl Twin {
     }
 }
 
+/// What an opening needs: its number, if that is not for what it was lent, or the paper's lengths.
+fn needs(plan: &Plan, number: u32) -> Result<(), String> {
+    let Plan { order, blocksize, ranks, sizes, prefix, k, .. } = plan;
+    let needed = raw::needs(*order, *blocksize, ranks, sizes, prefix, *k);
+    let wanted = match number {
+        0 | 18 => (0, plan.needed_bytes() as u64, plan.needed_cells() as u64),
+        number => (number, 0, 0),
+    };
+    same("what the opening needs", (needed.refusal, needed.image, needed.cells), wanted)
+}
+
 /// The library's answer to an opening, and what it left.
 fn library_open(plan: &Plan, mut image: Vec<u8>, mut table: Vec<i64>) -> (u32, Side<Session>) {
-    let answer = comparison::open(
+    let answer = raw::open(
         plan.order,
         plan.version,
         plan.patch,

@@ -4,7 +4,7 @@ use Prim.Native.Nat.{_≤_}
 use native.Mathlib.Omega.{arith}
 use lib.IntN.{pos}
 use lib.ListN.{length, replicate}
-use Rattle.container.specs.Reads.{containerOf}
+use Rattle.reading.specs.Reads.{containerOf}
 use Rattle.line.specs.Line.{cells, decimal, space, spaced, totalsOf}
 use Rattle.endian.proofs.Splice.{put-next}
 use Rattle.line.proofs.Whole.{few-tasks, line-put, refused-line, accepted-line}

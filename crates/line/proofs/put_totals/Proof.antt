@@ -7,8 +7,8 @@ use native.Mathlib.Nat.{le-antisymm}
 use native.Mathlib.Omega.{arith}
 use lib.ListN.{length}
 use Rattle.endian.specs.Below.{listBelow, joinBelow}
-use Rattle.container.specs.declared.record.Counted.{Counted}
-use Rattle.container.specs.Reads.{Container, containerOf, totalAnswer}
+use Rattle.reading.specs.declared.record.Counted.{Counted}
+use Rattle.reading.specs.Reads.{Container, containerOf, totalAnswer}
 use Rattle.line.specs.Line.{space, decimal, spaced, totalsOf}
 use Rattle.endian.proofs.Splice.{Put, put-none, put-is, put-next}
 use Rattle.line.proofs.Text.{spaced-more}

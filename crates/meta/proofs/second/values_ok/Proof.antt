@@ -1,7 +1,7 @@
 -- `meta::second::values_ok` meets its contract. The loop's invariant: every row passed keeps its rule, and `at` is where row k starts. The
 -- measure is the rows left. Assumes nothing.
 use Prim.Native.Nat.{ℕ, _+_, _*_, _≤_, _-_}
-use mathlib.Core.Path.{_≡_, ap, _∙_}
+use mathlib.Core.Path.{_≡_, ap}
 use mathlib.Core.Bool.{true}
 use native.Mathlib.Omega.{arith}
 use borrow.Author.Needs.{needs}

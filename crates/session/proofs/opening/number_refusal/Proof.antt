@@ -1,7 +1,6 @@
 -- `session::opening::number_refusal` meets its contract: each return by the tests that led there. Assumes nothing.
-use mathlib.Core.Path.{sym, _∙_}
 use borrow.Author.Needs.{needs}
-use borrow.Author.Tests.{not-true, not-false}
+use Rattle.endian.proofs.Below.{test-fails, test-holds}
 use Rattle.meta.specs.Refusals.{firstFailing}
 use Rattle.session.specs.Open.{numberTests}
 use Rattle.session.proofs.opening.number_refusal.Statement.{statement}
@@ -12,7 +11,7 @@ ranks-ok-requires c κs = search needs
 
 returns : tie.Need-returns
 unfolding firstFailing numberTests
-returns c = rw (sym (c .before .ranks-ok .ensures) ∙ not-true _ (c .if1 .taken))
+returns c = rw (test-fails (c .before .ranks-ok .ensures) (c .if1 .taken))
 
 sizes-ok-requires : tie.Need-sizes-ok-requires
 sizes-ok-requires c κs = search needs
@@ -21,8 +20,8 @@ returns-2 : tie.Need-returns-2
 unfolding firstFailing numberTests
 returns-2 c =
     rw (
-      sym (c .before .before .before .ranks-ok .ensures) ∙ not-false _ (c .before .before .if1 .left),
-      sym (c .before .sizes-ok .ensures) ∙ not-true _ (c .if2 .taken),
+      test-holds (c .before .before .before .ranks-ok .ensures) (c .before .before .if1 .left),
+      test-fails (c .before .sizes-ok .ensures) (c .if2 .taken),
     )
 
 planned-ok-requires : tie.Need-planned-ok-requires
@@ -33,9 +32,9 @@ unfolding firstFailing numberTests
 returns-3 c =
     let s = c .before .before .before .before in
     rw (
-      sym (s .before .ranks-ok .ensures) ∙ not-false _ (s .if1 .left),
-      sym (c .before .before .before .sizes-ok .ensures) ∙ not-false _ (c .before .before .if2 .left),
-      sym (c .before .planned-ok .ensures) ∙ not-true _ (c .if3 .taken),
+      test-holds (s .before .ranks-ok .ensures) (s .if1 .left),
+      test-holds (c .before .before .before .sizes-ok .ensures) (c .before .before .if2 .left),
+      test-fails (c .before .planned-ok .ensures) (c .if3 .taken),
     )
 
 returns-4 : tie.Need-returns-4
@@ -43,9 +42,9 @@ unfolding firstFailing numberTests
 returns-4 c =
     let s = c .before .before .before .before in
     rw (
-      sym (s .before .ranks-ok .ensures) ∙ not-false _ (s .if1 .left),
-      sym (c .before .before .before .sizes-ok .ensures) ∙ not-false _ (c .before .before .if2 .left),
-      sym (c .before .planned-ok .ensures) ∙ not-false _ (c .if3 .left),
+      test-holds (s .before .ranks-ok .ensures) (s .if1 .left),
+      test-holds (c .before .before .before .sizes-ok .ensures) (c .before .before .if2 .left),
+      test-holds (c .before .planned-ok .ensures) (c .if3 .left),
     )
 
 pub number-refusal-spec : {M : Type 1} → statement M

@@ -1,7 +1,7 @@
 -- `session::opening::shape_refusal` meets its contract: each return by the tests that led there. Assumes nothing.
-use mathlib.Core.Path.{sym, _∙_}
 use borrow.Author.Needs.{needs}
-use borrow.Author.Tests.{le-ltb, lt-ltb, le-leb, lt-leb, eq-eqb, ne-eqb, not-true, not-false}
+use borrow.Author.Tests.{le-ltb, lt-ltb, le-leb, lt-leb, eq-eqb, ne-eqb}
+use Rattle.endian.proofs.Below.{test-fails, test-holds}
 use Rattle.endian.proofs.Signed.{within-holds, within-over}
 use Rattle.layout.specs.Limits.{maxTasks, tasksRule}
 use Rattle.meta.specs.Meta1.{prefixLength}
@@ -21,7 +21,7 @@ returns-2 : tie.Need-returns-2
 unfolding firstFailing shapeTests
 returns-2 c =
     let s = c .before .before in
-    rw (le-leb (s .before .args .order) 1 (s .if1 .left), sym (c .before .blocksize-ok .ensures) ∙ not-true _ (c .if2 .taken))
+    rw (le-leb (s .before .args .order) 1 (s .if1 .left), test-fails (c .before .blocksize-ok .ensures) (c .if2 .taken))
 
 returns-3 : tie.Need-returns-3
 unfolding firstFailing shapeTests tasksRule
@@ -31,7 +31,7 @@ returns-3 c =
     let a = s .before .args in
     rw (
       le-leb (a .order) 1 (s .if1 .left),
-      sym (t .before .blocksize-ok .ensures) ∙ not-false _ (t .if2 .left),
+      test-holds (t .before .blocksize-ok .ensures) (t .if2 .left),
       lt-leb 1 (a .ranks) (c .if3 .taken),
     )
 
@@ -43,7 +43,7 @@ returns-4 c =
     let a = s .before .args in
     rw (
       le-leb (a .order) 1 (s .if1 .left),
-      sym (t .before .blocksize-ok .ensures) ∙ not-false _ (t .if2 .left),
+      test-holds (t .before .blocksize-ok .ensures) (t .if2 .left),
       within-over 1 maxTasks (a .ranks) (c .if4 .taken),
     )
 
@@ -55,7 +55,7 @@ returns-5 c =
     let a = s .before .args in
     rw (
       le-leb (a .order) 1 (s .if1 .left),
-      sym (t .before .blocksize-ok .ensures) ∙ not-false _ (t .if2 .left),
+      test-holds (t .before .blocksize-ok .ensures) (t .if2 .left),
       within-holds 1 maxTasks (a .ranks) (c .before .before .if3 .left) (c .before .if4 .left),
       ne-eqb (a .ranks) (a .sizes) (c .if5 .taken),
     )
@@ -68,7 +68,7 @@ returns-6 c =
     let a = s .before .args in
     rw (
       le-leb (a .order) 1 (s .if1 .left),
-      sym (t .before .blocksize-ok .ensures) ∙ not-false _ (t .if2 .left),
+      test-holds (t .before .blocksize-ok .ensures) (t .if2 .left),
       within-holds 1 maxTasks (a .ranks) (c .before .before .before .if3 .left) (c .before .before .if4 .left),
       eq-eqb (a .ranks) (a .sizes) (c .before .if5 .left),
       lt-ltb prefixLength (a .prefix) (c .if6 .taken),
@@ -82,7 +82,7 @@ returns-7 c =
     let a = s .before .args in
     rw (
       le-leb (a .order) 1 (s .if1 .left),
-      sym (t .before .blocksize-ok .ensures) ∙ not-false _ (t .if2 .left),
+      test-holds (t .before .blocksize-ok .ensures) (t .if2 .left),
       within-holds 1 maxTasks (a .ranks) (c .before .before .before .if3 .left) (c .before .before .if4 .left),
       eq-eqb (a .ranks) (a .sizes) (c .before .if5 .left),
       le-ltb prefixLength (a .prefix) (c .if6 .left),

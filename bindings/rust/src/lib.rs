@@ -1,0 +1,52 @@
+//! Opens, fills, closes, checks and reads one container in the SIONlib file format, over memory that the caller lends.
+//!
+//! A container holds the bytes of up to 64 tasks, in chunks. The work is done by a library whose every function is proved; this crate only
+//! calls it. Nothing is allocated but a [`Plan`]'s lists, and every call is accepted or refused with one of the [`Refusal`]s. Tasks and
+//! chunks are counted from 1.
+//!
+//! ```
+//! use sion::{Container, Plan, CELLS};
+//!
+//! // Two tasks of ranks 7 and 8, whose chunks hold 500 and 600 bytes, with room for three chunks each.
+//! let plan = Plan::new(512).prefix("night").blocks(3).task(7, 500).task(8, 600);
+//! let needs = plan.needs()?;
+//! let (mut image, mut table) = (vec![0; needs.image], vec![0; needs.cells]);
+//!
+//! let mut session = plan.open(&mut image, &mut table)?;
+//! session.write(1, b"Lights out at ten. ")?;
+//! session.write(2, b"Rain. ")?;
+//! session.write(1, b"All quiet.")?;
+//! let bytes = session.close()?; // the container, ready for a file
+//!
+//! let mut table = [0; CELLS];
+//! let container = Container::load(bytes, &mut table)?;
+//! for task in container.tasks() {
+//!     println!("rank {}: {} bytes", task.rank(), task.total());
+//! }
+//! assert_eq!(container.task(1)?.chunk(1)?, b"Lights out at ten. All quiet.");
+//! assert_eq!(std::io::read_to_string(container.task(2)?.stream())?, "Rain. ");
+//! # Ok::<(), Box<dyn std::error::Error>>(())
+//! ```
+
+#![warn(missing_docs)]
+
+/// The Rust of the project's own documents, run with the doc examples.
+#[cfg(doctest)]
+mod documents {
+    #[doc = include_str!("../../../README.md")]
+    struct Readme;
+    #[doc = include_str!("../../../docs/USING.md")]
+    struct Using;
+}
+
+mod container;
+pub mod raw;
+mod refusal;
+mod session;
+mod stream;
+
+pub use container::{Container, Task};
+pub use raw::{BLOCKS, CELLS, TASKS};
+pub use refusal::Refusal;
+pub use session::{ByteOrder, Needs, Plan, Session};
+pub use stream::Stream;

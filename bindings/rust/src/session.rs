@@ -1,0 +1,202 @@
+//! Holds what a session is opened with, what it needs, and the session over the memory lent to it.
+
+use crate::refusal::accepted;
+use crate::{raw, Refusal};
+use std::fmt;
+
+/// The byte order of a container's numbers, whatever that of the computer is.
+#[derive(Clone, Copy, Debug, Default, PartialEq, Eq, Hash)]
+#[repr(u32)]
+pub enum ByteOrder {
+    /// The least byte first.
+    #[default]
+    Little = 0,
+    /// The greatest byte first.
+    Big = 1,
+}
+
+/// What a session is opened with. Nothing is judged before [`needs`](Plan::needs) or [`open`](Plan::open) asks the library.
+///
+/// ```
+/// use sion::{Needs, Plan, Refusal};
+///
+/// let plan = Plan::new(512).blocks(3).task(0, 500).task(1, 600);
+/// assert_eq!(plan.needs(), Ok(Needs { image: 6208, cells: 6 }));
+/// assert_eq!(plan.task(1, 600).needs(), Err(Refusal::BadRank));
+/// ```
+#[derive(Clone, Debug, PartialEq, Eq)]
+pub struct Plan {
+    order: ByteOrder,
+    version: i32,
+    patch: i32,
+    blocksize: u32,
+    planned: u32,
+    prefix: Vec<u8>,
+    ranks: Vec<u64>,
+    sizes: Vec<u64>,
+}
+
+/// What an opening has to be lent.
+#[derive(Clone, Copy, Debug, PartialEq, Eq)]
+pub struct Needs {
+    /// The bytes of the image.
+    pub image: usize,
+    /// The cells of the table.
+    pub cells: usize,
+}
+
+impl Plan {
+    /// A plan without tasks: little byte order, version 0 and patch level 0, no prefix, one planned block.
+    pub fn new(blocksize: u32) -> Plan {
+        Plan {
+            order: ByteOrder::Little,
+            version: 0,
+            patch: 0,
+            blocksize,
+            planned: 1,
+            prefix: vec![],
+            ranks: vec![],
+            sizes: vec![],
+        }
+    }
+
+    /// Adds a task: its global rank, and the most bytes that each of its chunks holds.
+    pub fn task(mut self, rank: u64, chunk_size: u64) -> Plan {
+        self.ranks.push(rank);
+        self.sizes.push(chunk_size);
+        self
+    }
+
+    /// Adds tasks by their ranks and chunk sizes.
+    pub fn tasks(self, tasks: impl IntoIterator<Item = (u64, u64)>) -> Plan {
+        tasks.into_iter().fold(self, |plan, (rank, chunk_size)| plan.task(rank, chunk_size))
+    }
+
+    /// Plans so many blocks: the chunks that each task has room for.
+    pub fn blocks(self, planned: u32) -> Plan {
+        Plan { planned, ..self }
+    }
+
+    /// Chooses the byte order of the container's numbers.
+    pub fn byte_order(self, order: ByteOrder) -> Plan {
+        Plan { order, ..self }
+    }
+
+    /// Gives the library version and the patch level that the container names.
+    pub fn version(self, version: i32, patch: i32) -> Plan {
+        Plan { version, patch, ..self }
+    }
+
+    /// Gives the filename prefix that the container names.
+    pub fn prefix(self, prefix: impl Into<Vec<u8>>) -> Plan {
+        Plan { prefix: prefix.into(), ..self }
+    }
+
+    /// The image and the table that [`open`](Plan::open) has to be lent.
+    pub fn needs(&self) -> Result<Needs, Refusal> {
+        let (order, prefix) = (self.order as u32, &self.prefix);
+        let needed =
+            raw::needs(order, self.blocksize, &self.ranks, &self.sizes, prefix, self.planned);
+        accepted(needed.refusal)?;
+        // No slice is as long as usize::MAX: where usize is too narrow for the need, every opening is refused with 18.
+        let length = |need: u64| usize::try_from(need).unwrap_or(usize::MAX);
+        Ok(Needs { image: length(needed.image), cells: length(needed.cells) })
+    }
+
+    /// Opens a session over an image and a table, which may be longer than needed. What stands in them does not matter.
+    pub fn open<'a>(
+        &self,
+        image: &'a mut [u8],
+        table: &'a mut [i64],
+    ) -> Result<Session<'a>, Refusal> {
+        let opened = raw::open(
+            self.order as u32,
+            self.version,
+            self.patch,
+            self.blocksize,
+            &self.ranks,
+            &self.sizes,
+            &self.prefix,
+            self.planned,
+            image,
+            table,
+        );
+        accepted(opened.refusal)?;
+        Ok(Session { record: opened.session, image, table })
+    }
+}
+
+/// An open session over lent memory. Dropped without [`close`](Session::close), it leaves no container in the image.
+///
+/// ```
+/// use sion::{Plan, Refusal};
+///
+/// let plan = Plan::new(512).blocks(2).task(0, 500);
+/// let needs = plan.needs()?;
+/// let (mut image, mut table) = (vec![0; needs.image], vec![0; needs.cells]);
+/// let mut session = plan.open(&mut image, &mut table)?;
+/// session.write(1, b"a")?;
+/// session.write(1, &[7; 500])?; // a request is never split: this one begins the second chunk
+/// assert_eq!(session.write(1, b"b"), Err(Refusal::NoChunkLeft));
+/// assert_eq!(session.write(2, b"b"), Err(Refusal::NoTask));
+/// let container: &[u8] = session.close()?;
+/// assert!(container.starts_with(b"sion"));
+/// # Ok::<(), Refusal>(())
+/// ```
+pub struct Session<'a> {
+    record: raw::Session,
+    image: &'a mut [u8],
+    table: &'a mut [i64],
+}
+
+impl<'a> Session<'a> {
+    /// Writes bytes to a task, counted from 1: behind its last ones if they fit in its chunk in use, else to its next chunk.
+    pub fn write(&mut self, task: u64, bytes: &[u8]) -> Result<(), Refusal> {
+        accepted(raw::write(&mut self.record, self.image, self.table, task, bytes))
+    }
+
+    /// Closes the session, and hands back the container: the image as far as the container reaches.
+    pub fn close(self) -> Result<&'a [u8], Refusal> {
+        let Session { record, image, table } = self;
+        let closed = raw::close(record, image, table);
+        accepted(closed.refusal)?;
+        Ok(&image[..closed.length as usize])
+    }
+
+    /// The number of tasks.
+    pub fn tasks(&self) -> usize {
+        self.record.head.n as usize
+    }
+
+    /// The planned blocks: the chunks that each task has room for.
+    pub fn blocks(&self) -> u32 {
+        self.record.planned
+    }
+
+    /// The most bytes that each chunk of a task, counted from 1, holds.
+    pub fn chunk_size(&self, task: u64) -> Result<u64, Refusal> {
+        self.entry(&self.record.head.sizes, task)
+    }
+
+    /// The chunks that a task, counted from 1, has begun.
+    pub fn chunks_begun(&self, task: u64) -> Result<u64, Refusal> {
+        self.entry(&self.record.counts, task)
+    }
+
+    /// A task's entry in a list of the record.
+    fn entry(&self, list: &[u64], task: u64) -> Result<u64, Refusal> {
+        let mut entries = (1..).zip(&list[..self.tasks()]);
+        entries.find(|&(number, _)| number == task).map(|(_, &entry)| entry).ok_or(Refusal::NoTask)
+    }
+}
+
+impl fmt::Debug for Session<'_> {
+    fn fmt(&self, f: &mut fmt::Formatter<'_>) -> fmt::Result {
+        let begun = &self.record.counts[..self.tasks()];
+        f.debug_struct("Session")
+            .field("tasks", &self.tasks())
+            .field("blocks", &self.blocks())
+            .field("chunks_begun", &begun)
+            .finish_non_exhaustive()
+    }
+}

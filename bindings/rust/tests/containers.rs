@@ -1,0 +1,162 @@
+//! Holds loads and reads to their answers, and damaged containers to their refusals.
+
+mod common;
+
+use common::*;
+use sion::{ByteOrder, Container, Refusal};
+
+#[test]
+fn the_sample_is_read() {
+    let mut table = table();
+    let container = Container::load(SAMPLE, &mut table).unwrap();
+    assert_eq!(container.byte_order(), ByteOrder::Little);
+    assert_eq!((container.version(), container.patch()), (1, 7));
+    assert_eq!((container.blocksize(), container.maxchunks()), (512, 2));
+    let rows: Vec<_> = container
+        .tasks()
+        .map(|t| (t.number(), t.rank(), t.chunk_size(), t.chunks_used(), t.total()))
+        .collect();
+    assert_eq!(rows, [(1, 0, 500, 2, 501), (2, 1, 600, 0, 0)]);
+    let task = container.task(1).unwrap();
+    assert_eq!(task.chunks().collect::<Vec<_>>().concat(), bytes(501));
+    assert_eq!(task.chunk(2).unwrap().as_ptr(), &SAMPLE[3072], "a part of the image");
+}
+
+#[test]
+fn only_the_cells_of_the_container_are_filled() {
+    let mut table = vec![CELL; 6];
+    Container::load(SAMPLE, &mut table).unwrap();
+    assert_eq!(table, [500, -1, 1, -1, CELL, CELL]);
+}
+
+#[test]
+fn what_follows_the_container_is_not_looked_at() {
+    let longer = [SAMPLE, &[0xFF; 100]].concat();
+    let mut table = table();
+    assert_eq!(Container::load(&longer, &mut table).unwrap().task(1).unwrap().total(), 501);
+}
+
+/// What a load answers, over a table that a refused one leaves as it was.
+fn load(image: &[u8], cells: usize) -> Result<(), Refusal> {
+    let mut table = vec![CELL; cells];
+    let answer = Container::load(image, &mut table).map(drop);
+    assert!(answer.is_ok() || table.iter().all(|&cell| cell == CELL), "the table was changed");
+    answer
+}
+
+#[test]
+fn cut_containers_are_refused() {
+    let cuts = [
+        (0..4, Refusal::NoMark),
+        (4..8, Refusal::NoOrder),
+        (8..1120, Refusal::ShortMeta1),
+        (1120..4656, Refusal::BadMeta2Place),
+    ];
+    for order in ORDERS {
+        let container = paper_container(order);
+        for (lengths, refusal) in cuts.clone() {
+            for length in lengths {
+                assert_eq!(load(&container[..length], 4), Err(refusal), "{length} bytes");
+            }
+        }
+        assert_eq!(load(&container, 4), Ok(()));
+        assert_eq!(load(&container, 3), Err(Refusal::TooShort));
+    }
+}
+
+#[test]
+fn flipped_fields_are_refused() {
+    // the lowest byte of each field of a container in little byte order, and a bit of it
+    let flips = [
+        (0, 1, Refusal::NoMark),
+        (4, 2, Refusal::NoOrder),
+        (16, 1, Refusal::BadFormat),
+        (20, 1, Refusal::BadBlocksize),
+        (24, 128, Refusal::BadTasks),
+        (28, 2, Refusal::BadFiles),
+        (32, 1, Refusal::BadFiles),
+        (1076, 1, Refusal::BadRank),
+        (1095, 128, Refusal::BadSize),
+        (1108, 64, Refusal::BadMaxchunks),
+        (1112, 1, Refusal::BadMeta2Place),
+        (4608, 1, Refusal::BadMeta2),
+        (4624 + 1, 2, Refusal::BadMeta2),
+        (4632, 1, Refusal::BadMeta2),
+    ];
+    for (place, bit, refusal) in flips {
+        let mut container = SAMPLE.to_vec();
+        container[place] ^= bit;
+        assert_eq!(load(&container, 4), Err(refusal), "bit {bit} of byte {place}");
+    }
+    let mut open = SAMPLE.to_vec();
+    open[1112..1120].fill(0);
+    assert_eq!(load(&open, 4), Err(Refusal::NotClosed));
+}
+
+#[test]
+fn there_is_no_task_0_and_none_past_the_last() {
+    let mut table = table();
+    let container = Container::load(SAMPLE, &mut table).unwrap();
+    for number in [0, 3, 1 << 32 | 1, u64::MAX] {
+        assert_eq!(container.task(number).unwrap_err(), Refusal::NoTask);
+    }
+    assert_eq!(container.task(2).unwrap().number(), 2);
+    assert_eq!(container.tasks().rev().map(|task| task.number()).collect::<Vec<_>>(), [2, 1]);
+}
+
+#[test]
+fn only_used_chunks_are_handed_back() {
+    let mut table = table();
+    let container = Container::load(SAMPLE, &mut table).unwrap();
+    for (task, chunk) in [(1, 0), (1, 3), (1, u64::MAX), (2, 0), (2, 1)] {
+        assert_eq!(container.task(task).unwrap().chunk(chunk), Err(Refusal::NoChunk));
+    }
+    let chunks = container.task(1).unwrap().chunks();
+    assert_eq!(chunks.len(), 2);
+    assert_eq!(chunks.rev().map(<[u8]>::len).collect::<Vec<_>>(), [1, 500]);
+}
+
+#[test]
+fn reads_go_up_to_the_total_and_change_no_byte_behind() {
+    let (all, mut table) = (bytes(501), table());
+    let container = Container::load(SAMPLE, &mut table).unwrap();
+    let task = container.task(1).unwrap();
+    for place in [0, 1, 499, 500, 501] {
+        for length in [0, 1, 2, 3, 600] {
+            let mut out = vec![0; length];
+            let rest = &all[place..];
+            let count = rest.len().min(length);
+            assert_eq!(task.read_at(place as u64, &mut out), Ok(count));
+            assert_eq!(out[..count], rest[..count]);
+            assert!(out[count..].iter().all(|&byte| byte == 0));
+        }
+    }
+    let mut out = [7; 3];
+    for (number, place) in [(1, 502), (1, u64::MAX), (2, 1)] {
+        let task = container.task(number).unwrap();
+        assert_eq!(task.read_at(place, &mut out), Err(Refusal::PastTotal));
+    }
+    assert_eq!(out, [7; 3]);
+}
+
+#[test]
+fn chunks_outlive_the_container() {
+    let mut table = table();
+    let chunk = {
+        let container = Container::load(SAMPLE, &mut table).unwrap();
+        let task = container.task(1).unwrap();
+        task.chunk(2).unwrap()
+    };
+    assert_eq!(chunk, [250]);
+}
+
+#[test]
+fn a_container_shows_itself() {
+    let mut table = table();
+    let container = Container::load(SAMPLE, &mut table).unwrap();
+    let shown = format!("{container:?}");
+    assert!(shown.starts_with("Container { byte_order: Little, version: 1, patch: 7,"), "{shown}");
+    assert!(
+        shown.contains("Task { number: 1, rank: 0, chunk_size: 500, chunks_used: 2, total: 501 }")
+    );
+}

@@ -1,0 +1,12 @@
+//! Times the library against the reference and against a plain copy, on the same bytes in turns of one run, and prints the ratios of their
+//! times: loading, the reads, writing and closing.
+
+mod reads;
+mod rounds;
+mod writes;
+
+fn main() {
+    rounds::heading();
+    reads::all();
+    writes::all();
+}

@@ -1,0 +1,5 @@
+pub mod LoadTests
+pub mod LoadAnswers
+pub mod Records
+pub mod Readable
+pub mod Stream

@@ -1,0 +1,35 @@
+-- The tests of a load as facts: what holds of an image and a table where all of them pass, and that they pass where it holds.
+-- Assumes nothing.
+use mathlib.Core.Path.{_≡_, _∙_}
+use mathlib.Core.List.{List}
+use Prim.Native.Nat.{ℕ, _*_, _≤_}
+use native.Mathlib.Omega.{arith}
+use lib.ListN.{length}
+use borrow.Author.Tests.{ltb-false, le-ltb}
+use Rattle.meta.specs.Refusals.{firstFailing}
+use Rattle.meta.specs.Judge.{tasksIn, maxchunksIn, headIn, meta1Tests}
+use Rattle.meta.proofs.Refusals.{first-passes, both-pass, next-passes}
+use Rattle.meta.proofs.Accepting.{Meta1Holds, meta1-numbered, meta1-holds, meta1-passes, Meta2Holds, meta2-holds, meta2-passes}
+use Rattle.reading.specs.Load.{partIn, loadRefusal}
+
+pub record Loads (image : List ℕ) (cells : ℕ) : Type 0 where
+  pub first : Meta1Holds image (length image)
+  pub room : tasksIn image * maxchunksIn image ≤ cells
+  pub second : Meta2Holds (headIn image) (maxchunksIn image) (partIn image)
+
+pub load-holds : (image : List ℕ) (cells : ℕ) → loadRefusal image cells ≡ 0 → Loads image cells
+unfolding loadRefusal
+load-holds image cells e =
+    let (one, rest) = both-pass (meta1Tests image (length image)) _ (meta1-numbered image (length image)) e in
+    let (room, two) = next-passes _ _ (omega arith) rest in
+    record {
+      first = meta1-holds image (length image) one;
+      room = ltb-false _ _ room;
+      second = meta2-holds _ _ _ two;
+    }
+
+pub load-passes : (image : List ℕ) (cells : ℕ) → Loads image cells → loadRefusal image cells ≡ 0
+unfolding loadRefusal firstFailing
+load-passes image cells h =
+    first-passes (meta1Tests image (length image)) _ (meta1-numbered image (length image)) (meta1-passes image (length image) (h .first))
+    ∙ rw (le-ltb _ _ (h .room)) (meta2-passes _ _ _ (h .second))

@@ -1,0 +1,52 @@
+-- `reading::reads::chunk` meets its contract: the empty part where a test fails, and else the chunk's bytes. Assumes nothing.
+use mathlib.Core.Path.{sym, _∙_}
+use Prim.Native.Nat.{ℕ}
+use native.Mathlib.Omega.{arith}
+use borrow.Author.Needs.{needs}
+use Rattle.meta.proofs.Refusals.{when-accepted, when-refused}
+use Rattle.reading.specs.Reads.{containerOf, chunkRefusal, chunkPart}
+use Rattle.reading.proofs.reads.chunk.Statement.{statement}
+use Rattle.reading.proofs.reads.chunk.Tie as tie
+
+chunk-refusal-requires : tie.Need-chunk-refusal-requires
+chunk-refusal-requires c κs = search needs
+
+sub-result : tie.Need-sub-result
+sub-result c = search needs
+
+part-result-start : tie.Need-part-result-start
+part-result-start c = search needs
+
+part-result-end : tie.Need-part-result-end
+part-result-end c = search needs
+
+returns : tie.Need-returns
+unfolding chunkPart
+returns c =
+    let r = c .before .before .chunk-refusal in
+    let a = c .before .before .before .before .args in
+    let refusal : ℕ = chunkRefusal (containerOf (a .l) (a .image .now) (a .table .now)) (a .task) (a .chunk) in
+    sym (when-refused refusal _ _ (omega (arith, r .ensures, c .before .if1 .taken)))
+
+chunk-part-requires : tie.Need-chunk-part-requires
+chunk-part-requires c κs = sym (c .before .chunk-refusal .ensures) ∙ c .if1 .left
+
+returns-2 : tie.Need-returns-2
+unfolding chunkPart
+returns-2 c =
+    let a = c .before .before .before .before .args in
+    let refusal : ℕ = chunkRefusal (containerOf (a .l) (a .image .now) (a .table .now)) (a .task) (a .chunk) in
+    c .chunk-part .ensures
+    ∙ sym (when-accepted refusal _ _ (sym (c .before .before .chunk-refusal .ensures) ∙ c .before .if1 .left))
+
+pub chunk-spec : {M : Type 1} → statement M
+chunk-spec =
+    tie.close
+    (tie.spec
+    chunk-refusal-requires
+    sub-result
+    part-result-start
+    part-result-end
+    returns
+    chunk-part-requires
+    returns-2)

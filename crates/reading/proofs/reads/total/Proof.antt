@@ -1,0 +1,37 @@
+-- `reading::reads::total` meets its contract: the answer by cases of what `read_refusal` says.
+use mathlib.Core.Path.{_≡_, sym, ap, _∙_}
+use Prim.Native.Nat.{ℕ, _<_}
+use native.Mathlib.Omega.{arith}
+use borrow.Author.Needs.{needs}
+use Rattle.meta.specs.Refusals.{firstFailing}
+use Rattle.meta.proofs.Refusals.{when-accepted, when-refused}
+use Rattle.reading.specs.Reads.{Container, readTests, totalOf, totalAnswer}
+use Rattle.reading.proofs.Stream.{counted}
+use Rattle.reading.proofs.reads.total.Statement.{statement}
+use Rattle.reading.proofs.reads.total.Tie as tie
+
+module _ (c : Container) (task : ℕ) where
+  refused : (r : ℕ) → r ≡ firstFailing (readTests c task) → 0 < r → counted r 0 ≡ totalAnswer c task
+  unfolding totalAnswer
+  refused r e l =
+      let positive : 0 < firstFailing (readTests c task) = omega arith in
+      ap (λ (n : ℕ). counted n 0) e ∙ sym (when-refused _ _ _ positive)
+
+  accepted : (b : ℕ) → firstFailing (readTests c task) ≡ 0 → b ≡ totalOf c task → counted 0 b ≡ totalAnswer c task
+  unfolding totalAnswer
+  accepted b e t = ap (counted 0) t ∙ sym (when-accepted _ _ _ e)
+
+read-refusal-requires : tie.Need-read-refusal-requires
+read-refusal-requires c κs = search needs
+
+returns : tie.Need-returns
+returns c = refused _ _ _ (c .before .read-refusal .ensures) (search needs)
+
+total-of-requires : tie.Need-total-of-requires
+total-of-requires c κs = search needs
+
+returns-2 : tie.Need-returns-2
+returns-2 c = accepted _ _ _ (search needs) (c .total-of .ensures)
+
+pub total-spec : {M : Type 1} → statement M
+total-spec = tie.close (tie.spec read-refusal-requires returns total-of-requires returns-2)
