@@ -1,4 +1,5 @@
-// Tests 17, 18 and 19 of a session, its image and its table, whatever they hold.
+// Tests 17, 18 and 19 of a session, its image and its table, whatever they hold. The record's three lists are lent, each with an entry for every
+// one of the most tasks.
 ghost use mathlib.Core.Path.{_≡_};
 ghost use lib.IntN.{ℤ};
 ghost use lib.ListN.{length};
