@@ -1,7 +1,7 @@
 /*
  * A night at the railway: three stations write their timetable lines into one container, which goes to a file and is read again.
  *
- *     gcc -std=c99 -Iinclude -o target/night examples/night.c target/staticlib/libsion_abi.a
+ *     gcc -std=c99 -Iinclude -o target/night examples/night.c target/staticlib/liblapurmihi.a
  *     target/night night.sion
  */
 #include <inttypes.h>
@@ -9,11 +9,12 @@
 #include <stdlib.h>
 #include <string.h>
 
-#include "sion.h"
+#include "lapurmihi.h"
 
-enum { STATIONS = 3, BLOCKSIZE = 512, BLOCKS = 5 };
+enum { STATIONS = 3 };
 
-/* The plan: each station's rank, and the bytes that a chunk of it holds. */
+/* The plan: its numbers, each station's rank, and the bytes that a chunk of it holds. */
+static const struct lapur_plan plan = {.order = LAPUR_BIG, .version = 1, .patch = 7, .blocksize = 512, .planned = 5};
 static const uint64_t ranks[STATIONS] = {40, 7, 12};
 static const uint64_t sizes[STATIONS] = {32, 48, 96};
 static const uint8_t prefix[] = "railway/night";
@@ -39,39 +40,38 @@ static void fail(const char *what)
 static void check(const char *call, uint32_t refusal)
 {
     if (refusal != 0) {
-        fprintf(stderr, "%s: refused with %" PRIu32 ", %s\n", call, refusal, sion_sentence(refusal));
+        fprintf(stderr, "%s: refused with %" PRIu32 ", %s\n", call, refusal, lapur_sentence(refusal));
         exit(EXIT_FAILURE);
     }
 }
 
 static void save(const char *name)
 {
-    struct sion_needed needed =
-        sion_needs(SION_BIG, BLOCKSIZE, ranks, STATIONS, sizes, STATIONS, prefix, sizeof prefix - 1, BLOCKS);
-    check("sion_needs", needed.refusal);
+    struct lapur_needed needed = lapur_needs(plan, ranks, STATIONS, sizes, STATIONS, prefix, sizeof prefix - 1);
+    check("lapur_needs", needed.refusal);
     size_t length = (size_t)needed.image, cells = (size_t)needed.cells;
     uint8_t *image = calloc(length, sizeof *image); /* cleared: the gaps between chunks go to the file too */
     int64_t *table = malloc(cells * sizeof *table);
     if (image == NULL || table == NULL)
         fail("memory");
 
-    struct sion_started started = sion_open(SION_BIG, 1, 7, BLOCKSIZE, ranks, STATIONS, sizes, STATIONS, prefix, sizeof prefix - 1,
-                                            BLOCKS, image, length, table, cells);
-    check("sion_open", started.refusal);
+    struct lapur_opened opened =
+        lapur_open(plan, ranks, STATIONS, sizes, STATIONS, prefix, sizeof prefix - 1, image, length, table, cells);
+    check("lapur_open", opened.refusal);
     printf("opened with %zu bytes and %zu cells\n", length, cells);
 
-    struct sion_session session = started.session;
+    struct lapur_session session = opened.session;
     for (size_t i = 0; i < sizeof timetable / sizeof *timetable; i++) {
         const char *line = timetable[i].line;
-        uint32_t refusal = sion_write(&session, image, length, table, cells, timetable[i].task, (const uint8_t *)line, strlen(line));
-        if (refusal == SION_TOO_LONG) /* nothing has changed, and the session goes on */
-            printf("refused with %" PRIu32 ", %s: %s", refusal, sion_sentence(refusal), line);
+        uint32_t refusal = lapur_write(&session, image, length, table, cells, timetable[i].task, (const uint8_t *)line, strlen(line));
+        if (refusal == LAPUR_TOO_LONG) /* nothing has changed, and the session goes on */
+            printf("refused with %" PRIu32 ", %s: %s", refusal, lapur_sentence(refusal), line);
         else
-            check("sion_write", refusal);
+            check("lapur_write", refusal);
     }
 
-    struct sion_closed closed = sion_close(session, image, length, table, cells);
-    check("sion_close", closed.refusal);
+    struct lapur_closed closed = lapur_close(&session, image, length, table, cells);
+    check("lapur_close", closed.refusal);
     printf("closed with %" PRIu64 " bytes\n", closed.length);
 
     FILE *file = fopen(name, "wb");
@@ -84,22 +84,22 @@ static void save(const char *name)
 static void show(const char *name)
 {
     static uint8_t image[65536];
-    static int64_t table[SION_CELLS];
+    static int64_t table[LAPUR_CELLS];
     FILE *file = fopen(name, "rb");
     size_t length = file == NULL ? 0 : fread(image, 1, sizeof image, file);
     if (file == NULL || ferror(file) || fclose(file) != 0)
         fail(name);
 
-    struct sion_checked checked = sion_load(image, length, table, SION_CELLS);
-    check("sion_load", checked.refusal);
-    struct sion_loaded loaded = checked.loaded;
-    for (uint32_t task = 1; task <= loaded.head.n; task++) {
-        struct sion_counted total = sion_total(loaded, image, length, table, SION_CELLS, task);
-        check("sion_total", total.refusal);
-        printf("\nrank %" PRIu64 ", %" PRIu64 " bytes\n", loaded.head.ranks[task - 1], total.bytes);
-        for (uint64_t chunk = 1; chunk <= loaded.counts[task - 1]; chunk++) {
-            struct sion_part part = sion_chunk(loaded, image, length, table, SION_CELLS, task, chunk);
-            check("sion_chunk", part.refusal);
+    struct lapur_load_answer answer = lapur_load(image, length, table, LAPUR_CELLS);
+    check("lapur_load", answer.refusal);
+    const struct lapur_loaded *loaded = &answer.loaded;
+    for (uint32_t task = 1; task <= loaded->numbers.n; task++) {
+        struct lapur_byte_count total = lapur_total(loaded, image, length, table, LAPUR_CELLS, task);
+        check("lapur_total", total.refusal);
+        printf("\nrank %" PRIu64 ", %" PRIu64 " bytes\n", loaded->ranks[task - 1], total.bytes);
+        for (uint64_t chunk = 1; chunk <= loaded->counts[task - 1]; chunk++) {
+            struct lapur_part part = lapur_chunk(loaded, image, length, table, LAPUR_CELLS, task, chunk);
+            check("lapur_chunk", part.refusal);
             printf("chunk %" PRIu64 ", %" PRIu64 " bytes from %" PRIu64 " on:\n", chunk, part.length, part.start);
             fwrite(image + part.start, 1, (size_t)part.length, stdout);
         }
@@ -107,10 +107,10 @@ static void show(const char *name)
 
     printf("\nthe whole stream of task 1:\n");
     uint8_t out[50];
-    struct sion_counted copied = {0, 1};
+    struct lapur_byte_count copied = {0, 1};
     for (uint64_t place = 0; copied.bytes > 0; place += copied.bytes) {
-        copied = sion_read(loaded, image, length, table, SION_CELLS, 1, place, out, sizeof out);
-        check("sion_read", copied.refusal);
+        copied = lapur_read(loaded, image, length, table, LAPUR_CELLS, 1, place, out, sizeof out);
+        check("lapur_read", copied.refusal);
         fwrite(out, 1, (size_t)copied.bytes, stdout);
     }
 }

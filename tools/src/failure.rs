@@ -1,6 +1,6 @@
 //! Holds why the program stops, as it says it and with its exit status.
 
-use sion::Refusal;
+use lapurmihi::Refusal;
 use std::io;
 use std::path::Path;
 

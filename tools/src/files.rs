@@ -2,7 +2,7 @@
 
 use crate::failure::{Failure, Named};
 use crate::progress::Progress;
-use sion::{Container, CELLS};
+use lapurmihi::{Container, CELLS};
 use std::fs::{self, File};
 use std::io::Write;
 use std::path::{Path, PathBuf};

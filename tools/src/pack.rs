@@ -4,7 +4,7 @@ use crate::args::{Args, Command, Known};
 use crate::failure::{Failure, Named};
 use crate::files::{free, make, put, PIECE};
 use crate::progress::Progress;
-use sion::{ByteOrder, Plan, Refusal, BLOCKS};
+use lapurmihi::{ByteOrder, Plan, Refusal, BLOCKS};
 use std::fs::File;
 use std::io::{ErrorKind, Read};
 use std::path::{Path, PathBuf};

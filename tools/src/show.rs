@@ -3,7 +3,7 @@
 use crate::args::{Args, Command};
 use crate::failure::Failure;
 use crate::files::load;
-use sion::{ByteOrder, Container};
+use lapurmihi::{ByteOrder, Container};
 use std::path::Path;
 
 pub const COMMAND: Command =
@@ -83,7 +83,7 @@ fn aligned<const N: usize>(rows: &[[String; N]]) -> String {
 #[cfg(test)]
 mod tests {
     use super::*;
-    use sion::CELLS;
+    use lapurmihi::CELLS;
 
     const SAMPLE: &[u8] = include_bytes!("../../examples/two-tasks.sion");
 

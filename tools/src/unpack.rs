@@ -4,7 +4,7 @@ use crate::args::{Args, Command, Known};
 use crate::failure::{Failure, Named};
 use crate::files::{free, load, make, put};
 use crate::progress::Progress;
-use sion::{Container, Task};
+use lapurmihi::{Container, Task};
 use std::path::{Path, PathBuf};
 
 pub const COMMAND: Command = Command {

@@ -11,7 +11,7 @@ const READABLE: &str = "an accepted load is readable";
 ///
 /// ```
 /// # let container = include_bytes!("../../../examples/two-tasks.sion");
-/// use sion::{ByteOrder, Container, CELLS};
+/// use lapurmihi::{ByteOrder, Container, CELLS};
 ///
 /// let mut table = [0; CELLS];
 /// let container = Container::load(container, &mut table)?;
@@ -20,7 +20,7 @@ const READABLE: &str = "an accepted load is readable";
 /// assert_eq!(container.maxchunks(), 2);
 /// let totals: Vec<u64> = container.tasks().map(|task| task.total()).collect();
 /// assert_eq!(totals, [501, 0]);
-/// # Ok::<(), sion::Refusal>(())
+/// # Ok::<(), lapurmihi::Refusal>(())
 /// ```
 pub struct Container<'a> {
     record: raw::Loaded,
@@ -32,14 +32,14 @@ impl<'a> Container<'a> {
     /// Checks a container, whatever its bytes are. What follows it in the image is not looked at. A table of [`CELLS`](crate::CELLS)
     /// cells is long enough for each; what stands in it does not matter.
     pub fn load(image: &'a [u8], table: &'a mut [i64]) -> Result<Container<'a>, Refusal> {
-        let checked = raw::load(image, table);
-        accepted(checked.refusal)?;
-        Ok(Container { record: checked.loaded, image, table })
+        let answer = raw::load(image, table);
+        accepted(answer.refusal)?;
+        Ok(Container { record: answer.loaded, image, table })
     }
 
     /// The byte order of the container's numbers.
     pub fn byte_order(&self) -> ByteOrder {
-        match self.record.head.order {
+        match self.record.numbers.order {
             0 => ByteOrder::Little,
             _ => ByteOrder::Big,
         }
@@ -47,32 +47,32 @@ impl<'a> Container<'a> {
 
     /// The library version that the container names.
     pub fn version(&self) -> i32 {
-        self.record.head.version
+        self.record.numbers.version
     }
 
     /// The patch level that the container names.
     pub fn patch(&self) -> i32 {
-        self.record.head.patch
+        self.record.numbers.patch
     }
 
     /// The bytes of a file-system block.
     pub fn blocksize(&self) -> u32 {
-        self.record.head.blocksize
+        self.record.numbers.blocksize
     }
 
     /// The greatest number of chunks that a task used.
     pub fn maxchunks(&self) -> u32 {
-        self.record.maxchunks
+        self.record.numbers.maxchunks
     }
 
     /// The tasks, in the container's order.
     pub fn tasks(&self) -> impl ExactSizeIterator<Item = Task<'_, 'a>> + DoubleEndedIterator {
-        (0..self.record.head.n as usize).map(|index| Task { container: self, index })
+        (0..self.record.numbers.n as usize).map(|index| Task { container: self, index })
     }
 
     /// One task, counted from 1.
     pub fn task(&self, number: u64) -> Result<Task<'_, 'a>, Refusal> {
-        accepted(raw::total(self.record, self.image, self.table, number).refusal)?;
+        accepted(raw::total(&self.record, self.image, self.table, number).refusal)?;
         Ok(Task { container: self, index: number as usize - 1 })
     }
 }
@@ -94,7 +94,7 @@ impl fmt::Debug for Container<'_> {
 ///
 /// ```
 /// # let container = include_bytes!("../../../examples/two-tasks.sion");
-/// use sion::{Container, Refusal, CELLS};
+/// use lapurmihi::{Container, Refusal, CELLS};
 ///
 /// let mut table = [0; CELLS];
 /// let container = Container::load(container, &mut table)?;
@@ -122,12 +122,12 @@ impl<'c, 'a> Task<'c, 'a> {
 
     /// Its global rank.
     pub fn rank(&self) -> u64 {
-        self.container.record.head.ranks[self.index]
+        self.container.record.ranks[self.index]
     }
 
     /// The most bytes that each of its chunks holds.
     pub fn chunk_size(&self) -> u64 {
-        self.container.record.head.sizes[self.index]
+        self.container.record.sizes[self.index]
     }
 
     /// The chunks that it used.
@@ -137,7 +137,7 @@ impl<'c, 'a> Task<'c, 'a> {
 
     /// The bytes of its whole stream.
     pub fn total(&self) -> u64 {
-        let Container { record, image, table } = *self.container;
+        let Container { record, image, table } = self.container;
         let counted = raw::total(record, image, table, self.number());
         accepted(counted.refusal).expect(READABLE);
         counted.bytes
@@ -145,7 +145,7 @@ impl<'c, 'a> Task<'c, 'a> {
 
     /// The bytes written to a chunk, counted from 1: a part of the image, not a copy.
     pub fn chunk(&self, chunk: u64) -> Result<&'a [u8], Refusal> {
-        let Container { record, image, table } = *self.container;
+        let Container { record, image, table } = self.container;
         let part = raw::chunk(record, image, table, self.number(), chunk);
         accepted(part.refusal)?;
         Ok(&image[part.start as usize..][..part.length as usize])
@@ -160,7 +160,7 @@ impl<'c, 'a> Task<'c, 'a> {
 
     /// Copies its stream from a place on into `out`, as far as both reach, and counts the bytes copied. The rest of `out` stays.
     pub fn read_at(&self, place: u64, out: &mut [u8]) -> Result<usize, Refusal> {
-        let Container { record, image, table } = *self.container;
+        let Container { record, image, table } = self.container;
         let counted = raw::read(record, image, table, self.number(), place, out);
         accepted(counted.refusal)?;
         Ok(counted.bytes as usize)

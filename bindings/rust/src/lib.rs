@@ -5,7 +5,7 @@
 //! chunks are counted from 1.
 //!
 //! ```
-//! use sion::{Container, Plan, CELLS};
+//! use lapurmihi::{Container, Plan, CELLS};
 //!
 //! // Two tasks of ranks 7 and 8, whose chunks hold 500 and 600 bytes, with room for three chunks each.
 //! let plan = Plan::new(512).prefix("night").blocks(3).task(7, 500).task(8, 600);

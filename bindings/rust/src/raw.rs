@@ -3,17 +3,21 @@
 //! Every function takes any values at all: the library tests what it is given, and answers with a refusal number or with 0. Tasks and
 //! chunks are counted from 1. The types of the crate's root are the pleasant way to the same functions.
 
+use std::ptr;
+
 /// The most tasks of a container, and the entries that a record has for them.
 pub const TASKS: usize = 64;
 /// The most planned blocks, and so the most chunks of a task.
 pub const BLOCKS: usize = 32;
 /// The cells of a table that is long enough for every container.
 pub const CELLS: usize = TASKS * BLOCKS;
+/// The entries of a record's three lists.
+const LISTS: usize = 3 * TASKS;
 
-/// What both kinds of record share; entries past `n` are 0.
+/// The numbers of a session's record.
 #[repr(C)]
 #[derive(Clone, Copy, Debug, PartialEq, Eq)]
-pub struct Head {
+pub struct SessionNumbers {
     /// 0 little, 1 big.
     pub order: u32,
     /// The library version, any number.
@@ -24,38 +28,74 @@ pub struct Head {
     pub blocksize: u32,
     /// The number of tasks.
     pub n: u32,
+    /// The planned blocks.
+    pub planned: u32,
+    /// 0 as long as the session is open.
+    pub closed: u32,
+}
+
+/// The record of a session: its numbers and three lists, whose entries past `n` are 0.
+#[repr(C)]
+#[derive(Clone, Copy, Debug, PartialEq, Eq)]
+pub struct Session {
+    /// All that is no list.
+    pub numbers: SessionNumbers,
     /// The global rank of each task.
     pub ranks: [u64; TASKS],
     /// The chunk size that each task requested.
     pub sizes: [u64; TASKS],
-}
-
-/// The record of a session.
-#[repr(C)]
-#[derive(Clone, Copy, Debug, PartialEq, Eq)]
-pub struct Session {
-    /// What it was opened with.
-    pub head: Head,
     /// The chunks that each task has begun.
     pub counts: [u64; TASKS],
-    /// The planned blocks.
-    pub planned: u32,
-    /// 0 as long as it is open.
-    pub closed: u32,
 }
 
-/// The record of a load.
+/// The numbers of a loaded container's record.
 #[repr(C)]
 #[derive(Clone, Copy, Debug, PartialEq, Eq)]
-pub struct Loaded {
-    /// What the container was opened with.
-    pub head: Head,
-    /// The chunks that each task used.
-    pub counts: [u64; TASKS],
-    /// The greatest count.
+pub struct LoadedNumbers {
+    /// 0 little, 1 big.
+    pub order: u32,
+    /// The library version, any number.
+    pub version: i32,
+    /// The patch level, any number.
+    pub patch: i32,
+    /// The bytes of a file-system block.
+    pub blocksize: u32,
+    /// The number of tasks.
+    pub n: u32,
+    /// The greatest number of chunks that a task used.
     pub maxchunks: u32,
     /// 0 in an accepted load.
     pub closed: u32,
+}
+
+/// The record of a loaded container: its numbers and three lists, whose entries past `n` are 0.
+#[repr(C)]
+#[derive(Clone, Copy, Debug, PartialEq, Eq)]
+pub struct Loaded {
+    /// All that is no list.
+    pub numbers: LoadedNumbers,
+    /// The global rank of each task.
+    pub ranks: [u64; TASKS],
+    /// The chunk size that each task requested.
+    pub sizes: [u64; TASKS],
+    /// The chunks that each task used.
+    pub counts: [u64; TASKS],
+}
+
+/// What a session is opened with, beside the ranks, the sizes and the filename prefix.
+#[repr(C)]
+#[derive(Clone, Copy, Debug, PartialEq, Eq)]
+pub struct Plan {
+    /// 0 little, 1 big.
+    pub order: u32,
+    /// The library version, any number.
+    pub version: i32,
+    /// The patch level, any number.
+    pub patch: i32,
+    /// The bytes of a file-system block.
+    pub blocksize: u32,
+    /// The planned blocks.
+    pub planned: u32,
 }
 
 /// What an opening needs.
@@ -70,30 +110,14 @@ pub struct Needed {
     pub cells: u64,
 }
 
-/// The numbers of a session's record that a write goes by; its lists are lent beside them.
-#[repr(C)]
-#[derive(Clone, Copy, Debug, PartialEq, Eq)]
-pub struct Facts {
-    /// 0 little, 1 big.
-    pub order: u32,
-    /// The bytes of a file-system block.
-    pub blocksize: u32,
-    /// The number of tasks.
-    pub n: u32,
-    /// The planned blocks.
-    pub planned: u32,
-    /// 0 as long as the session is open.
-    pub closed: u32,
-}
-
 /// What opening answers.
 #[repr(C)]
 #[derive(Clone, Copy, Debug, PartialEq, Eq)]
-pub struct Started {
+pub struct Opened {
+    /// The record of the session.
+    pub session: Session,
     /// The refusal number or 0.
     pub refusal: u32,
-    /// The record after the call.
-    pub session: Session,
 }
 
 /// What closing answers.
@@ -102,20 +126,26 @@ pub struct Started {
 pub struct Closed {
     /// The refusal number or 0.
     pub refusal: u32,
-    /// The record after the call.
-    pub session: Session,
     /// The container's bytes, from the image's start.
     pub length: u64,
+}
+
+/// What the library answers to a close, of which [`close`] puts the numbers into the record.
+#[repr(C)]
+struct ClosedLent {
+    refusal: u32,
+    numbers: SessionNumbers,
+    length: u64,
 }
 
 /// What loading answers.
 #[repr(C)]
 #[derive(Clone, Copy, Debug, PartialEq, Eq)]
-pub struct Checked {
-    /// The refusal number or 0.
-    pub refusal: u32,
+pub struct LoadAnswer {
     /// The record of the load.
     pub loaded: Loaded,
+    /// The refusal number or 0.
+    pub refusal: u32,
 }
 
 /// Where the written bytes of a chunk lie in the image.
@@ -133,50 +163,43 @@ pub struct Part {
 /// A number of bytes: a task's total, or what a read copied.
 #[repr(C)]
 #[derive(Clone, Copy, Debug, PartialEq, Eq)]
-pub struct Counted {
+pub struct ByteCount {
     /// The refusal number or 0.
     pub refusal: u32,
     /// The number of bytes.
     pub bytes: u64,
 }
 
-#[link(name = "sion_abi", kind = "static")]
+// A function whose name ends in `_lent` takes a record in two parts: its numbers, and its lists as one array.
+#[link(name = "lapurmihi", kind = "static")]
 extern "C" {
-    fn sion_needs(
-        order: u32,
-        blocksize: u32,
+    fn lapur_needs(
+        plan: Plan,
         ranks: *const u64,
         ranks_len: usize,
         sizes: *const u64,
         sizes_len: usize,
         prefix: *const u8,
         prefix_len: usize,
-        planned: u32,
     ) -> Needed;
 
-    fn sion_open(
-        order: u32,
-        version: i32,
-        patch: i32,
-        blocksize: u32,
+    fn lapur_open(
+        plan: Plan,
         ranks: *const u64,
         ranks_len: usize,
         sizes: *const u64,
         sizes_len: usize,
         prefix: *const u8,
         prefix_len: usize,
-        planned: u32,
         image: *mut u8,
         image_len: usize,
         table: *mut i64,
         table_len: usize,
-    ) -> Started;
+    ) -> Opened;
 
-    fn sion_write_lent(
-        facts: Facts,
-        ranks: *const u64,
-        sizes: *const u64,
-        counts: *mut u64,
+    fn lapur_write_lent(
+        numbers: SessionNumbers,
+        lists: *mut [u64; LISTS],
         image: *mut u8,
         image_len: usize,
         table: *mut i64,
@@ -186,18 +209,25 @@ extern "C" {
         bytes_len: usize,
     ) -> u32;
 
-    fn sion_close(
-        session: Session,
+    fn lapur_close_lent(
+        numbers: SessionNumbers,
+        lists: *const [u64; LISTS],
         image: *mut u8,
         image_len: usize,
         table: *const i64,
         table_len: usize,
-    ) -> Closed;
+    ) -> ClosedLent;
 
-    fn sion_load(image: *const u8, image_len: usize, table: *mut i64, table_len: usize) -> Checked;
+    fn lapur_load(
+        image: *const u8,
+        image_len: usize,
+        table: *mut i64,
+        table_len: usize,
+    ) -> LoadAnswer;
 
-    fn sion_chunk(
-        loaded: Loaded,
+    fn lapur_chunk_lent(
+        numbers: LoadedNumbers,
+        lists: *const [u64; LISTS],
         image: *const u8,
         image_len: usize,
         table: *const i64,
@@ -206,17 +236,19 @@ extern "C" {
         chunk: u64,
     ) -> Part;
 
-    fn sion_total(
-        loaded: Loaded,
+    fn lapur_total_lent(
+        numbers: LoadedNumbers,
+        lists: *const [u64; LISTS],
         image: *const u8,
         image_len: usize,
         table: *const i64,
         table_len: usize,
         task: u64,
-    ) -> Counted;
+    ) -> ByteCount;
 
-    fn sion_read(
-        loaded: Loaded,
+    fn lapur_read_lent(
+        numbers: LoadedNumbers,
+        lists: *const [u64; LISTS],
         image: *const u8,
         image_len: usize,
         table: *const i64,
@@ -225,65 +257,57 @@ extern "C" {
         place: u64,
         out: *mut u8,
         out_len: usize,
-    ) -> Counted;
+    ) -> ByteCount;
 }
 
-// Each call below is sound for all arguments: a slice's pointer and length are good for as long as the call lasts, two of them overlap
-// only where both are shared, every record is plain numbers, and the library keeps no pointer.
-
-/// What an opening with this plan needs: its tests but for the lengths of image and table, 2, 5, 6, 21, 8, 9 and 20.
-#[inline]
-pub fn needs(
-    order: u32,
-    blocksize: u32,
-    ranks: &[u64],
-    sizes: &[u64],
-    prefix: &[u8],
-    planned: u32,
-) -> Needed {
-    unsafe {
-        sion_needs(
-            order,
-            blocksize,
-            ranks.as_ptr(),
-            ranks.len(),
-            sizes.as_ptr(),
-            sizes.len(),
-            prefix.as_ptr(),
-            prefix.len(),
-            planned,
-        )
+impl Session {
+    /// The three lists, which stand one behind the other, as one array.
+    fn lists(&mut self) -> *mut [u64; LISTS] {
+        let record: *mut Session = self;
+        // Made from the whole record, the pointer is good for all three lists.
+        unsafe { ptr::addr_of_mut!((*record).ranks) }.cast()
     }
 }
 
+impl Loaded {
+    /// The three lists, which stand one behind the other, as one array.
+    fn lists(&self) -> *const [u64; LISTS] {
+        let record: *const Loaded = self;
+        // Made from the whole record, the pointer is good for all three lists.
+        unsafe { ptr::addr_of!((*record).ranks) }.cast()
+    }
+}
+
+// Each call below is sound for all arguments: a slice's pointer and length are good for as long as the call lasts, and so is the pointer to
+// a record's lists; two of them overlap only where both are shared, every record is plain numbers, and the library keeps no pointer.
+
+/// What an opening with this plan needs: its tests but for the lengths of image and table, 2, 5, 6, 21, 8, 9 and 20.
+#[inline]
+pub fn needs(plan: Plan, ranks: &[u64], sizes: &[u64], prefix: &[u8]) -> Needed {
+    let (ranks_len, sizes_len, prefix_len) = (ranks.len(), sizes.len(), prefix.len());
+    let (ranks, sizes, prefix) = (ranks.as_ptr(), sizes.as_ptr(), prefix.as_ptr());
+    unsafe { lapur_needs(plan, ranks, ranks_len, sizes, sizes_len, prefix, prefix_len) }
+}
+
 /// Opens a session: writes META1 to the image and marks the cells of the table unused.
-#[allow(clippy::too_many_arguments)]
 #[inline]
 pub fn open(
-    order: u32,
-    version: i32,
-    patch: i32,
-    blocksize: u32,
+    plan: Plan,
     ranks: &[u64],
     sizes: &[u64],
     prefix: &[u8],
-    planned: u32,
     image: &mut [u8],
     table: &mut [i64],
-) -> Started {
+) -> Opened {
     unsafe {
-        sion_open(
-            order,
-            version,
-            patch,
-            blocksize,
+        lapur_open(
+            plan,
             ranks.as_ptr(),
             ranks.len(),
             sizes.as_ptr(),
             sizes.len(),
             prefix.as_ptr(),
             prefix.len(),
-            planned,
             image.as_mut_ptr(),
             image.len(),
             table.as_mut_ptr(),
@@ -292,8 +316,8 @@ pub fn open(
     }
 }
 
-/// Writes bytes to a task's chunk in use, or to its next one, and gives the refusal number or 0. The record is lent in its parts, so none of
-/// it is copied; a refused write leaves it as it was.
+/// Writes bytes to a task's chunk in use, or to its next one, and gives the refusal number or 0. A refused write leaves the record as it
+/// was; an accepted one changes the task's count alone.
 #[inline]
 pub fn write(
     session: &mut Session,
@@ -302,16 +326,10 @@ pub fn write(
     task: u64,
     bytes: &[u8],
 ) -> u32 {
-    let Session { head, counts, planned, closed } = session;
-    let Head { order, blocksize, n, ranks, sizes, .. } = head;
-    let (order, blocksize, n) = (*order, *blocksize, *n);
-    let facts = Facts { order, blocksize, n, planned: *planned, closed: *closed };
     unsafe {
-        sion_write_lent(
-            facts,
-            ranks.as_ptr(),
-            sizes.as_ptr(),
-            counts.as_mut_ptr(),
+        lapur_write_lent(
+            session.numbers,
+            session.lists(),
             image.as_mut_ptr(),
             image.len(),
             table.as_mut_ptr(),
@@ -323,43 +341,85 @@ pub fn write(
     }
 }
 
-/// Closes a session: writes META2 and the fields that say where it is.
+/// Closes a session: writes META2 and the fields that say where it is, and marks the record closed. A refused close leaves the record as
+/// it was.
 #[inline]
-pub fn close(session: Session, image: &mut [u8], table: &[i64]) -> Closed {
-    unsafe { sion_close(session, image.as_mut_ptr(), image.len(), table.as_ptr(), table.len()) }
+pub fn close(session: &mut Session, image: &mut [u8], table: &[i64]) -> Closed {
+    let answer = unsafe {
+        lapur_close_lent(
+            session.numbers,
+            session.lists(),
+            image.as_mut_ptr(),
+            image.len(),
+            table.as_ptr(),
+            table.len(),
+        )
+    };
+    session.numbers = answer.numbers;
+    Closed { refusal: answer.refusal, length: answer.length }
 }
 
 /// Checks a container, and puts its bytes written to each chunk into the table.
 #[inline]
-pub fn load(image: &[u8], table: &mut [i64]) -> Checked {
-    unsafe { sion_load(image.as_ptr(), image.len(), table.as_mut_ptr(), table.len()) }
+pub fn load(image: &[u8], table: &mut [i64]) -> LoadAnswer {
+    unsafe { lapur_load(image.as_ptr(), image.len(), table.as_mut_ptr(), table.len()) }
 }
 
 /// Where the written bytes of a chunk lie in the image; refused, the empty part at 0.
 #[inline]
-pub fn chunk(loaded: Loaded, image: &[u8], table: &[i64], task: u64, chunk: u64) -> Part {
-    let (image_len, table_len) = (image.len(), table.len());
-    unsafe { sion_chunk(loaded, image.as_ptr(), image_len, table.as_ptr(), table_len, task, chunk) }
+pub fn chunk(loaded: &Loaded, image: &[u8], table: &[i64], task: u64, chunk: u64) -> Part {
+    unsafe {
+        lapur_chunk_lent(
+            loaded.numbers,
+            loaded.lists(),
+            image.as_ptr(),
+            image.len(),
+            table.as_ptr(),
+            table.len(),
+            task,
+            chunk,
+        )
+    }
 }
 
 /// The bytes of a task's whole stream.
 #[inline]
-pub fn total(loaded: Loaded, image: &[u8], table: &[i64], task: u64) -> Counted {
-    let (image_len, table_len) = (image.len(), table.len());
-    unsafe { sion_total(loaded, image.as_ptr(), image_len, table.as_ptr(), table_len, task) }
+pub fn total(loaded: &Loaded, image: &[u8], table: &[i64], task: u64) -> ByteCount {
+    unsafe {
+        lapur_total_lent(
+            loaded.numbers,
+            loaded.lists(),
+            image.as_ptr(),
+            image.len(),
+            table.as_ptr(),
+            table.len(),
+            task,
+        )
+    }
 }
 
 /// Copies a task's stream from a place on into `out`, as far as both reach, and counts the bytes copied.
 #[inline]
 pub fn read(
-    loaded: Loaded,
+    loaded: &Loaded,
     image: &[u8],
     table: &[i64],
     task: u64,
     place: u64,
     out: &mut [u8],
-) -> Counted {
-    let (image_len, table_len, out_len) = (image.len(), table.len(), out.len());
-    let (image, table, out) = (image.as_ptr(), table.as_ptr(), out.as_mut_ptr());
-    unsafe { sion_read(loaded, image, image_len, table, table_len, task, place, out, out_len) }
+) -> ByteCount {
+    unsafe {
+        lapur_read_lent(
+            loaded.numbers,
+            loaded.lists(),
+            image.as_ptr(),
+            image.len(),
+            table.as_ptr(),
+            table.len(),
+            task,
+            place,
+            out.as_mut_ptr(),
+            out.len(),
+        )
+    }
 }

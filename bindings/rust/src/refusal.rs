@@ -5,10 +5,11 @@ use std::{error, fmt, io};
 /// Makes the enum and its tables from one list.
 macro_rules! refusals {
     ($($variant:ident = $number:literal $name:literal $sentence:literal)*) => {
-        /// Why a call was refused: the number of the first test that failed. A refused call changes nothing.
+        /// Why a call was refused: the number of the first test that failed. A refused call changes nothing. More of them may come,
+        /// so a `match` has an arm for the rest.
         ///
         /// ```
-        /// use sion::Refusal;
+        /// use lapurmihi::Refusal;
         ///
         /// let refusal = Refusal::try_from(16).unwrap();
         /// assert_eq!(refusal, Refusal::NoChunkLeft);
@@ -16,6 +17,7 @@ macro_rules! refusals {
         /// assert_eq!(refusal.to_string(), "refusal 16: the task has no chunk left");
         /// ```
         #[derive(Clone, Copy, Debug, PartialEq, Eq, Hash)]
+        #[non_exhaustive]
         #[repr(u32)]
         pub enum Refusal {
             $(#[doc = $sentence] $variant = $number,)*

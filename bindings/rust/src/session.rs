@@ -18,7 +18,7 @@ pub enum ByteOrder {
 /// What a session is opened with. Nothing is judged before [`needs`](Plan::needs) or [`open`](Plan::open) asks the library.
 ///
 /// ```
-/// use sion::{Needs, Plan, Refusal};
+/// use lapurmihi::{Needs, Plan, Refusal};
 ///
 /// let plan = Plan::new(512).blocks(3).task(0, 500).task(1, 600);
 /// assert_eq!(plan.needs(), Ok(Needs { image: 6208, cells: 6 }));
@@ -94,9 +94,7 @@ impl Plan {
 
     /// The image and the table that [`open`](Plan::open) has to be lent.
     pub fn needs(&self) -> Result<Needs, Refusal> {
-        let (order, prefix) = (self.order as u32, &self.prefix);
-        let needed =
-            raw::needs(order, self.blocksize, &self.ranks, &self.sizes, prefix, self.planned);
+        let needed = raw::needs(self.numbers(), &self.ranks, &self.sizes, &self.prefix);
         accepted(needed.refusal)?;
         // No slice is as long as usize::MAX: where usize is too narrow for the need, every opening is refused with 18.
         let length = |need: u64| usize::try_from(need).unwrap_or(usize::MAX);
@@ -109,27 +107,23 @@ impl Plan {
         image: &'a mut [u8],
         table: &'a mut [i64],
     ) -> Result<Session<'a>, Refusal> {
-        let opened = raw::open(
-            self.order as u32,
-            self.version,
-            self.patch,
-            self.blocksize,
-            &self.ranks,
-            &self.sizes,
-            &self.prefix,
-            self.planned,
-            image,
-            table,
-        );
+        let Plan { ranks, sizes, prefix, .. } = self;
+        let opened = raw::open(self.numbers(), ranks, sizes, prefix, image, table);
         accepted(opened.refusal)?;
         Ok(Session { record: opened.session, image, table })
+    }
+
+    /// What of it is neither a list nor the prefix.
+    fn numbers(&self) -> raw::Plan {
+        let Plan { order, version, patch, blocksize, planned, .. } = *self;
+        raw::Plan { order: order as u32, version, patch, blocksize, planned }
     }
 }
 
 /// An open session over lent memory. Dropped without [`close`](Session::close), it leaves no container in the image.
 ///
 /// ```
-/// use sion::{Plan, Refusal};
+/// use lapurmihi::{Plan, Refusal};
 ///
 /// let plan = Plan::new(512).blocks(2).task(0, 500);
 /// let needs = plan.needs()?;
@@ -157,25 +151,25 @@ impl<'a> Session<'a> {
 
     /// Closes the session, and hands back the container: the image as far as the container reaches.
     pub fn close(self) -> Result<&'a [u8], Refusal> {
-        let Session { record, image, table } = self;
-        let closed = raw::close(record, image, table);
+        let Session { mut record, image, table } = self;
+        let closed = raw::close(&mut record, image, table);
         accepted(closed.refusal)?;
         Ok(&image[..closed.length as usize])
     }
 
     /// The number of tasks.
     pub fn tasks(&self) -> usize {
-        self.record.head.n as usize
+        self.record.numbers.n as usize
     }
 
     /// The planned blocks: the chunks that each task has room for.
     pub fn blocks(&self) -> u32 {
-        self.record.planned
+        self.record.numbers.planned
     }
 
     /// The most bytes that each chunk of a task, counted from 1, holds.
     pub fn chunk_size(&self, task: u64) -> Result<u64, Refusal> {
-        self.entry(&self.record.head.sizes, task)
+        self.entry(&self.record.sizes, task)
     }
 
     /// The chunks that a task, counted from 1, has begun.

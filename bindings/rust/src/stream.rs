@@ -7,7 +7,7 @@ use std::io::{self, BufRead, Read, Seek, SeekFrom};
 /// A task's bytes as a stream. A refusal becomes an [`io::Error`] with the [`Refusal`](crate::Refusal) inside.
 ///
 /// ```
-/// use sion::{Container, Plan, CELLS};
+/// use lapurmihi::{Container, Plan, CELLS};
 /// use std::io::{BufRead, Read, Seek};
 ///
 /// let plan = Plan::new(512).blocks(2).task(0, 8);

@@ -3,7 +3,7 @@
 mod common;
 
 use common::*;
-use sion::{ByteOrder, Container, Refusal};
+use lapurmihi::{ByteOrder, Container, Refusal};
 
 #[test]
 fn the_sample_is_read() {

@@ -1,16 +1,58 @@
-//! Holds the records to the library's layout: values that differ in every field go through it and come back.
+//! Holds the records to the library's layout: where their fields stand, and values that differ in every field go through it and come back.
 
 mod common;
 
 use common::SAMPLE;
-use sion::raw::{self, Checked, Counted, Head, Loaded, Needed, Part, Session, Started};
-use sion::{BLOCKS, CELLS, TASKS};
+use lapurmihi::raw::{self, ByteCount, Closed, LoadAnswer, Loaded, LoadedNumbers, Needed, Opened};
+use lapurmihi::raw::{Part, Plan, Session, SessionNumbers};
+use lapurmihi::{BLOCKS, CELLS, TASKS};
+use std::mem::{offset_of, size_of};
 
-/// The most tasks, each with a rank and a size of its own.
-fn head(order: u32) -> Head {
+/// What a refused opening hands back.
+const NO_SESSION: Session = Session {
+    numbers: SessionNumbers {
+        order: 0,
+        version: 0,
+        patch: 0,
+        blocksize: 0,
+        n: 0,
+        planned: 0,
+        closed: 1,
+    },
+    ranks: [0; TASKS],
+    sizes: [0; TASKS],
+    counts: [0; TASKS],
+};
+
+/// What a refused load hands back.
+const NOT_LOADED: Loaded = Loaded {
+    numbers: LoadedNumbers {
+        order: 0,
+        version: 0,
+        patch: 0,
+        blocksize: 0,
+        n: 0,
+        maxchunks: 0,
+        closed: 1,
+    },
+    ranks: [0; TASKS],
+    sizes: [0; TASKS],
+    counts: [0; TASKS],
+};
+
+/// The numbers of a plan with the most blocks.
+fn plan(order: u32) -> Plan {
+    Plan { order, version: -2, patch: 0x1234_5678, blocksize: 1024, planned: BLOCKS as u32 }
+}
+
+/// The record of its session just opened: the most tasks, each with a rank and a size of its own.
+fn session(order: u32) -> Session {
+    let Plan { version, patch, blocksize, planned, .. } = plan(order);
+    let n = TASKS as u32;
+    let numbers = SessionNumbers { order, version, patch, blocksize, n, planned, closed: 0 };
     let ranks = std::array::from_fn(|task| 1_000_000 + task as u64);
     let sizes = std::array::from_fn(|task| 1 + 3 * task as u64);
-    Head { order, version: -2, patch: 0x1234_5678, blocksize: 1024, n: TASKS as u32, ranks, sizes }
+    Session { numbers, ranks, sizes, counts: [0; TASKS] }
 }
 
 /// The chunks that each task begins.
@@ -20,13 +62,10 @@ fn counts() -> [u64; TASKS] {
 
 /// An open session of such a record in which each task begins its chunks, all of them full.
 fn filled(order: u32, image: &mut [u8], table: &mut [i64]) -> Session {
-    let head = head(order);
-    let Head { version, patch, blocksize, ranks, sizes, .. } = &head;
-    let (k, prefix) = (BLOCKS as u32, b"prefix");
-    let opened =
-        raw::open(order, *version, *patch, *blocksize, ranks, sizes, prefix, k, image, table);
-    let mut session = Session { head, counts: [0; TASKS], planned: k, closed: 0 };
-    assert_eq!(opened, Started { refusal: 0, session });
+    let mut session = session(order);
+    let Session { ranks, sizes, .. } = session;
+    let opened = raw::open(plan(order), &ranks, &sizes, b"prefix", image, table);
+    assert_eq!(opened, Opened { session, refusal: 0 });
     for (task, count) in counts().into_iter().enumerate() {
         for done in 1..=count {
             let bytes = vec![task as u8; sizes[task] as usize];
@@ -44,26 +83,42 @@ fn with(mut counts: [u64; TASKS], task: usize, count: u64) -> [u64; TASKS] {
 }
 
 #[test]
+fn a_record_is_its_numbers_and_behind_them_its_lists_with_no_gap() {
+    assert_eq!([size_of::<SessionNumbers>(), size_of::<LoadedNumbers>()], [28; 2]);
+    assert_eq!(size_of::<Plan>(), 20);
+    let session =
+        [offset_of!(Session, ranks), offset_of!(Session, sizes), offset_of!(Session, counts)];
+    let loaded = [offset_of!(Loaded, ranks), offset_of!(Loaded, sizes), offset_of!(Loaded, counts)];
+    assert_eq!([session, loaded], [[32, 32 + 512, 32 + 1024]; 2]);
+    assert_eq!([size_of::<Session>(), size_of::<Loaded>()], [32 + 3 * 512; 2]);
+    assert_eq!([offset_of!(Opened, refusal), offset_of!(LoadAnswer, refusal)], [32 + 3 * 512; 2]);
+    assert_eq!([size_of::<Opened>(), size_of::<LoadAnswer>()], [40 + 3 * 512; 2]);
+}
+
+#[test]
 fn records_survive_the_library() {
     for order in [0, 1] {
-        let Head { blocksize, ranks, sizes, .. } = head(order);
-        let needed = raw::needs(order, blocksize, &ranks, &sizes, b"prefix", BLOCKS as u32);
+        let Session { ranks, sizes, .. } = session(order);
+        let needed = raw::needs(plan(order), &ranks, &sizes, b"prefix");
         let image = needed.image;
         assert_eq!(needed, Needed { refusal: 0, image, cells: CELLS as u64 });
 
         let (mut image, mut table) = (vec![0; image as usize], vec![0; CELLS]);
-        let session = filled(order, &mut image, &mut table);
-        let closed = raw::close(session, &mut image, &table);
-        assert_eq!((closed.refusal, closed.length), (0, image.len() as u64));
-        assert_eq!(closed.session, Session { closed: 1, ..session });
+        let mut session = filled(order, &mut image, &mut table);
+        let before = session;
+        let closed = raw::close(&mut session, &mut image, &table);
+        assert_eq!(closed, Closed { refusal: 0, length: image.len() as u64 });
+        let numbers = SessionNumbers { closed: 1, ..before.numbers };
+        assert_eq!(session, Session { numbers, ..before });
 
         let mut table = vec![0; CELLS];
-        let Session { head, counts, planned: maxchunks, .. } = session;
-        let loaded = Loaded { head, counts, maxchunks, closed: 0 };
-        assert_eq!(raw::load(&image, &mut table), Checked { refusal: 0, loaded });
-        for (task, count) in counts.into_iter().enumerate() {
-            let total = raw::total(loaded, &image, &table, task as u64 + 1);
-            assert_eq!(total, Counted { refusal: 0, bytes: count * sizes[task] });
+        let SessionNumbers { version, patch, blocksize, n, planned: maxchunks, .. } = numbers;
+        let numbers = LoadedNumbers { order, version, patch, blocksize, n, maxchunks, closed: 0 };
+        let loaded = Loaded { numbers, ranks, sizes, counts: counts() };
+        assert_eq!(raw::load(&image, &mut table), LoadAnswer { loaded, refusal: 0 });
+        for (task, count) in counts().into_iter().enumerate() {
+            let total = raw::total(&loaded, &image, &table, task as u64 + 1);
+            assert_eq!(total, ByteCount { refusal: 0, bytes: count * sizes[task] });
         }
     }
 }
@@ -72,33 +127,34 @@ fn records_survive_the_library() {
 fn reads_answer_in_their_fields() {
     let mut table = vec![0; 4];
     let loaded = raw::load(SAMPLE, &mut table).loaded;
-    let placed = raw::chunk(loaded, SAMPLE, &table, 1, 1);
+    let placed = raw::chunk(&loaded, SAMPLE, &table, 1, 1);
     assert_eq!(placed, Part { refusal: 0, start: 1536, length: 500 });
-    let placed = raw::chunk(loaded, SAMPLE, &table, 1, 2);
+    let placed = raw::chunk(&loaded, SAMPLE, &table, 1, 2);
     assert_eq!(placed, Part { refusal: 0, start: 3072, length: 1 });
     let mut out = [9; 5];
-    let copied = raw::read(loaded, SAMPLE, &table, 1, 498, &mut out);
-    assert_eq!(copied, Counted { refusal: 0, bytes: 3 });
+    let copied = raw::read(&loaded, SAMPLE, &table, 1, 498, &mut out);
+    assert_eq!(copied, ByteCount { refusal: 0, bytes: 3 });
     assert_eq!(out, [SAMPLE[2034], SAMPLE[2035], SAMPLE[3072], 9, 9]);
 }
 
 #[test]
 fn refused_calls_hand_back_zeros_or_what_they_were_given() {
-    let none = Head { version: 0, patch: 0, blocksize: 0, n: 0, order: 0, ..head(0) };
-    let none = Head { ranks: [0; TASKS], sizes: [0; TASKS], ..none };
-    let refused = Session { head: none, counts: [0; TASKS], planned: 0, closed: 1 };
-    let opened = raw::open(2, 1, 7, 512, &[0], &[1], b"", 1, &mut [], &mut []);
-    assert_eq!(opened, Started { refusal: 2, session: refused });
-    assert_eq!(raw::needs(2, 512, &[0], &[1], b"", 1), Needed { refusal: 2, image: 0, cells: 0 });
-    assert_eq!(raw::needs(0, 512, &[0, 1], &[1], b"", 1).refusal, 6);
+    let plan = Plan { order: 2, version: 1, patch: 7, blocksize: 512, planned: 1 };
+    let opened = raw::open(plan, &[0], &[1], b"", &mut [], &mut []);
+    assert_eq!(opened, Opened { session: NO_SESSION, refusal: 2 });
+    assert_eq!(raw::needs(plan, &[0], &[1], b""), Needed { refusal: 2, image: 0, cells: 0 });
+    assert_eq!(raw::needs(Plan { order: 0, ..plan }, &[0, 1], &[1], b"").refusal, 6);
 
-    let closed = raw::close(refused, &mut [], &[]);
-    assert_eq!((closed.refusal, closed.session, closed.length), (17, refused, 0));
-    let loaded = Loaded { head: none, counts: [0; TASKS], maxchunks: 0, closed: 1 };
-    assert_eq!(raw::load(b"", &mut []), Checked { refusal: 1, loaded });
-    assert_eq!(raw::chunk(loaded, b"", &[], 1, 1), Part { refusal: 17, start: 0, length: 0 });
-    assert_eq!(raw::total(loaded, b"", &[], 1), Counted { refusal: 17, bytes: 0 });
-    assert_eq!(raw::read(loaded, b"", &[], 1, 0, &mut []), Counted { refusal: 17, bytes: 0 });
+    let mut session = Session { ranks: [5; TASKS], ..session(1) };
+    let before = session;
+    assert_eq!(raw::close(&mut session, &mut [], &[]), Closed { refusal: 17, length: 0 });
+    assert_eq!(raw::write(&mut session, &mut [], &mut [], 1, b"x"), 17);
+    assert_eq!(session, before);
+    let loaded = NOT_LOADED;
+    assert_eq!(raw::load(b"", &mut []), LoadAnswer { loaded, refusal: 1 });
+    assert_eq!(raw::chunk(&loaded, b"", &[], 1, 1), Part { refusal: 17, start: 0, length: 0 });
+    assert_eq!(raw::total(&loaded, b"", &[], 1), ByteCount { refusal: 17, bytes: 0 });
+    assert_eq!(raw::read(&loaded, b"", &[], 1, 0, &mut []), ByteCount { refusal: 17, bytes: 0 });
 }
 
 #[test]
@@ -106,14 +162,15 @@ fn reads_test_the_record_and_the_memory_first() {
     let mut table = vec![0; 4];
     let loaded = raw::load(SAMPLE, &mut table).loaded;
     let short = &SAMPLE[..SAMPLE.len() - 1];
-    let numbers = |loaded, image, table: &[i64]| {
+    let numbers = |loaded: &Loaded, image, table: &[i64]| {
         let placed = raw::chunk(loaded, image, table, 0, 0).refusal;
         let copied = raw::read(loaded, image, table, 0, 0, &mut []).refusal;
         [placed, copied, raw::total(loaded, image, table, 0).refusal]
     };
-    assert_eq!(numbers(Loaded { maxchunks: 1, ..loaded }, SAMPLE, &table), [17; 3]);
-    assert_eq!(numbers(loaded, short, &table), [18; 3]);
-    assert_eq!(numbers(loaded, SAMPLE, &table[..3]), [18; 3]);
-    assert_eq!(numbers(loaded, SAMPLE, &[501, -1, 1, -1]), [19; 3]);
-    assert_eq!(numbers(loaded, SAMPLE, &table), [14; 3]);
+    let fewer = LoadedNumbers { maxchunks: 1, ..loaded.numbers };
+    assert_eq!(numbers(&Loaded { numbers: fewer, ..loaded }, SAMPLE, &table), [17; 3]);
+    assert_eq!(numbers(&loaded, short, &table), [18; 3]);
+    assert_eq!(numbers(&loaded, SAMPLE, &table[..3]), [18; 3]);
+    assert_eq!(numbers(&loaded, SAMPLE, &[501, -1, 1, -1]), [19; 3]);
+    assert_eq!(numbers(&loaded, SAMPLE, &table), [14; 3]);
 }

@@ -1,6 +1,6 @@
 //! Holds the refusals to their page, docs/REFUSALS.md.
 
-use sion::Refusal;
+use lapurmihi::Refusal;
 use std::error::Error;
 use std::io;
 

@@ -3,7 +3,7 @@
 mod common;
 
 use common::*;
-use sion::{ByteOrder, Container, Needs, Plan, Refusal};
+use lapurmihi::{ByteOrder, Container, Needs, Plan, Refusal};
 
 #[test]
 fn the_papers_session() {

@@ -3,7 +3,7 @@
 mod common;
 
 use common::*;
-use sion::{Container, Plan, Refusal, Task};
+use lapurmihi::{Container, Plan, Refusal, Task};
 use std::io::{BufRead, ErrorKind, Read, Seek, SeekFrom};
 
 /// Where the sample's META2 says how many bytes the first chunk of task 1 has.

@@ -14,26 +14,26 @@ use Rattle.layout.proofs.Chunks.{meta2End-small}
 use Rattle.layout.proofs.Power.{power-of-two, blocksize-facts}
 use Rattle.meta.specs.Meta1.{meta1}
 use Rattle.meta.specs.Meta2.{valueIndex}
-use Rattle.meta.specs.Heads.{entry, cell, isBig, headOf}
+use Rattle.meta.specs.Heads.{entry, cell, countOf, isBig}
 use Rattle.meta.proofs.Rules.{ranks-within, ranks-differ, valueIndex-lt}
 use Rattle.emit.proofs.Stored
 use Rattle.session.specs.Records.{State}
 use Rattle.session.specs.Open.{Opening, tasks, openHead}
-use Rattle.session.specs.Close.{maxchunksOf}
-use Rattle.session.proofs.Openings.{ranks-kept, sizes-kept, plan-sound}
+use Rattle.session.specs.Close
+use Rattle.session.proofs.Openings.{plan-sound}
 use Rattle.container.specs.Format.{HasMeta1, HasMeta2, valueOf}
 use Rattle.container.specs.Demands.{VersionsFit, contentsOf}
 use Rattle.container.proofs.ClosedParts.{Closable, closedAs, startIn, valueIn, closing, apart, end-after, closed-most}
-use Rattle.container.proofs.ClosedParts.{closed-reached, used, not-used, used-small, closed-long, meta1-there, part-there}
+use Rattle.container.proofs.ClosedParts.{closed-reached, in-range, not-used, used-small, closed-long, meta1-there, part-there}
 
 module _ (o : Opening) (st : State) (c : Closable o st) (tail : List ℕ) where
   abbrev m : ℕ
-  m = maxchunksOf (st .session)
+  m = Close.used st
 
   few : m ≤ maxBlocks
   few = closing o st c .few
 
-  stored : take (meta1End (tasks o)) (closedAs st tail) ≡ meta1 (openHead o) (o .prefix) m (startIn o st)
+  stored : take (meta1End (tasks o)) (closedAs st tail) ≡ meta1 (openHead o) (entry (o .ranks)) (entry (o .sizes)) (o .prefix) m (startIn o st)
   stored = meta1-there o st c tail
 
   rank-small : (i : ℕ) → i < tasks o → entry (o .ranks) i ≤ maxRank
@@ -41,63 +41,61 @@ module _ (o : Opening) (st : State) (c : Closable o st) (tail : List ℕ) where
       within-facts 0 maxRank (entry (o .ranks) i) (ranks-within (tasks o) (λ i. pos (entry (o .ranks) i)) (c .plan .ranked) i l) .1
 
   pub has-meta1 : VersionsFit o → HasMeta1 (closedAs st tail) (contentsOf o st)
-  unfolding openHead headOf
+  unfolding openHead
   has-meta1 fit =
       let sound = plan-sound o (c .plan) in
       let small = meta2End-small sound m few in
-      let block = blocksize-facts (o .blocksize) (c .plan .block) in
+      let block = blocksize-facts (o .plan .blocksize) (c .plan .block) in
       let short = c .plan .prefix-short in
       record {
         long = omega (arith, closed-long o st c tail, apart o st c, end-after o st c);
-        marked = Stored.mark-back _ _ _ _ _ short stored;
-        order-is = Stored.order-back _ _ _ _ _ short stored;
-        version-is = Stored.version-back _ _ _ _ _ short stored (fit .0);
-        patch-is = Stored.patch-back _ _ _ _ _ short stored (fit .1);
-        format-is = Stored.format-back _ _ _ _ _ short stored;
-        blocksize-is = Stored.blocksize-back _ _ _ _ _ short stored (omega arith);
-        blocksize-power = power-of-two (o .blocksize) (block .2);
+        marked = Stored.mark-back _ _ _ _ _ _ _ short stored;
+        order-is = Stored.order-back _ _ _ _ _ _ _ short stored;
+        version-is = Stored.version-back _ _ _ _ _ _ _ short stored (fit .0);
+        patch-is = Stored.patch-back _ _ _ _ _ _ _ short stored (fit .1);
+        format-is = Stored.format-back _ _ _ _ _ _ _ short stored;
+        blocksize-is = Stored.blocksize-back _ _ _ _ _ _ _ short stored (omega arith);
+        blocksize-power = power-of-two (o .plan .blocksize) (block .2);
         blocksize-range = (block .0, block .1);
-        tasks-are = Stored.tasks-back _ _ _ _ _ short stored (omega (arith, c .plan .few-tasks));
+        tasks-are = Stored.tasks-back _ _ _ _ _ _ _ short stored (omega (arith, c .plan .few-tasks));
         tasks-range = (c .plan .some-tasks, c .plan .few-tasks);
-        files-are = Stored.files-back _ _ _ _ _ short stored;
-        file-number-is = Stored.file-number-back _ _ _ _ _ short stored;
+        files-are = Stored.files-back _ _ _ _ _ _ _ short stored;
+        file-number-is = Stored.file-number-back _ _ _ _ _ _ _ short stored;
         ranks-are = λ i l.
-            let e : entry (openHead o .ranks) i ≡ entry (o .ranks) i = ap (λ (f : ℕ → ℕ). f i) (ranks-kept o (c .plan)) in
-            Stored.rank-back _ _ _ _ _ short stored i l (omega (arith, rank-small i l)) ∙ ap pos e;
+            Stored.rank-back _ _ _ _ _ _ _ short stored i l (omega (arith, rank-small i l));
         ranks-range = rank-small;
         ranks-differ = λ i j l h same. ranks-differ (tasks o) (λ i. pos (entry (o .ranks) i)) (c .plan .ranked) i j l h (ap pos same);
         sizes-are = λ i l.
-            let e : entry (openHead o .sizes) i ≡ entry (o .sizes) i = ap (λ (f : ℕ → ℕ). f i) (sizes-kept o (c .plan)) in
-            Stored.size-back _ _ _ _ _ short stored i l (omega (arith, sound-size sound i l)) ∙ ap pos e;
+            Stored.size-back _ _ _ _ _ _ _ short stored i l (omega (arith, sound-size sound i l));
         sizes-range = sound-size sound;
-        maxchunks-is = Stored.maxchunks-back _ _ _ _ _ short stored (omega (arith, few));
+        maxchunks-is = Stored.maxchunks-back _ _ _ _ _ _ _ short stored (omega (arith, few));
         maxchunks-range = few;
-        start-is = Stored.start-back _ _ _ _ _ short stored (omega (arith, small, end-after o st c));
+        start-is = Stored.start-back _ _ _ _ _ _ _ short stored (omega (arith, small, end-after o st c));
       }
 
   value-there : (i k : ℕ) → i < tasks o → k < m → mag (valueIn o st k i) < 2 ^ 63
       → valueOf (closedAs st tail) (contentsOf o st) k i ≡ valueIn o st k i
-  unfolding openHead headOf
+  unfolding openHead
   value-there i k l h small =
       let n : ℕ = tasks o in
       rw (part-there o st c tail)
-      (Stored.value-back (isBig (openHead o)) n m (entry (st .session .counts)) (cell (st .table)) (valueIndex n k i)
+      (Stored.value-back (isBig (openHead o)) n m (countOf (st .lists)) (cell (st .table)) (valueIndex n k i)
       (valueIndex-lt n m k i l h) small)
 
   pub has-meta2 : HasMeta2 (closedAs st tail) (contentsOf o st)
-  unfolding openHead headOf
+  unfolding openHead
   has-meta2 = record {
     fits = closed-long o st c tail;
     counts-are = λ i l.
         rw (part-there o st c tail)
-        (Stored.count-back (isBig (openHead o)) (tasks o) m (entry (st .session .counts)) (cell (st .table)) i l
+        (Stored.count-back (isBig (openHead o)) (tasks o) m (countOf (st .lists)) (cell (st .table)) i l
         (omega (arith, closed-most o st c i l, few)));
     counts-range = closed-most o st c;
     greatest = closed-reached o st c;
     used-first = λ i k l u.
-        let e = used o st c i k l u .0 in
+        let e = in-range o st c i k l u .0 in
         value-there i k l (omega (arith, closed-most o st c i l)) (rw e (omega (arith, used-small o st c i k l u))) ∙ e;
-    used-fit = λ i k l u. used o st c i k l u .2;
+    used-fit = λ i k l u. in-range o st c i k l u .2;
     others-unused = λ i k l u h.
         let e = not-used o st c i k l u h in
         value-there i k l h (rw e (omega arith)) ∙ e;

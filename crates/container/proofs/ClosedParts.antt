@@ -21,13 +21,12 @@ use Rattle.layout.proofs.Chunks.{meta1-before-data, capacity-small}
 use Rattle.layout.proofs.Power.{blocksize-facts}
 use Rattle.meta.specs.declared.head.Head.{Head}
 use Rattle.meta.specs.Meta1.{lastAt, lastFields, meta1Front, meta1}
-use Rattle.meta.specs.Meta2.{valueIndex, unused, meta2}
-use Rattle.meta.specs.Heads.{entry, cell, isBig, holds, meta2At, endAt, cellsAgree, headOf}
+use Rattle.meta.specs.Meta2.{valueIndex, unused, valuesRule, meta2}
+use Rattle.meta.specs.Heads.{entry, cell, sizeOf, countOf, isBig, holds, meta2At, endAt, cellsAgree}
 use Rattle.meta.proofs.Rules.{values-used, values-unused}
-use Rattle.meta.proofs.Heads.{holds-made, meta2At-made, endAt-made}
 use Rattle.session.specs.Records.{State}
 use Rattle.session.specs.Open.{Opening, tasks, openHead}
-use Rattle.session.specs.Close.{maxchunksOf, closeRefusal, closeAnswer, closeImage}
+use Rattle.session.specs.Close.{used, closeRefusal, closeAnswer, closeImage}
 use Rattle.session.proofs.Openings.{PlanHolds, plan-sound}
 use Rattle.session.proofs.Sessions.{StateHolds, state-holds}
 use Rattle.session.proofs.Closings.{Closes, closes}
@@ -40,8 +39,9 @@ use Rattle.container.proofs.Stores.{close-stores}
 pub record Closable (o : Opening) (st : State) : Type 0 where
   pub plan : PlanHolds o
   pub head-is : st .session .head ≡ openHead o
+  pub sizes-are : sizeOf (st .lists) ≡ entry (o .sizes)
   pub passes : closeRefusal st ≡ 0
-  pub front : take (lastAt (tasks o)) (st .image) ≡ meta1Front (openHead o) (o .prefix)
+  pub front : take (lastAt (tasks o)) (st .image) ≡ meta1Front (openHead o) (entry (o .ranks)) (entry (o .sizes)) (o .prefix)
 
 -- its closed image, and anything after it
 abbrev pub closedAs : State → List ℕ → List ℕ
@@ -49,17 +49,17 @@ closedAs st tail = take (closeAnswer st .length) (closeImage st) ++ tail
 
 -- where META2 starts and ends in it, and the cell of chunk k + 1 of task i + 1
 abbrev pub startIn : Opening → State → ℕ
-startIn o st = meta2Start (o .blocksize) (tasks o) (entry (o .sizes)) (maxchunksOf (st .session))
+startIn o st = meta2Start (o .plan .blocksize) (tasks o) (entry (o .sizes)) (used st)
 
 abbrev pub endIn : Opening → State → ℕ
-endIn o st = meta2End (o .blocksize) (tasks o) (entry (o .sizes)) (maxchunksOf (st .session))
+endIn o st = meta2End (o .plan .blocksize) (tasks o) (entry (o .sizes)) (used st)
 
 abbrev pub valueIn : Opening → State → ℕ → ℕ → ℤ
 valueIn o st k i = cell (st .table) (valueIndex (tasks o) k i)
 
 module _ (o : Opening) (st : State) (c : Closable o st) where
   abbrev m : ℕ
-  m = maxchunksOf (st .session)
+  m = used st
 
   abbrev at : ℕ
   at = startIn o st
@@ -79,22 +79,21 @@ module _ (o : Opening) (st : State) (c : Closable o st) where
 
   -- ---- what closing stores, by what the opening was given
 
-  start-made : meta2At (openHead o) m ≡ at
-  unfolding openHead
-  start-made = meta2At-made _ _ _ _ _ _ _ (c .plan .few-tasks) m
+  -- what is said with the session's head and sizes is said with the opening's
+  by-opening : (P : Head → (ℕ → ℕ) → Type 0) → P (st .session .head) (sizeOf (st .lists)) → P (openHead o) (entry (o .sizes))
+  by-opening P x =
+      subst (λ (size : ℕ → ℕ). P (openHead o) size) (c .sizes-are) (subst (λ (h : Head). P h (sizeOf (st .lists))) (c .head-is) x)
 
-  end-made : endAt (openHead o) m ≡ end
-  unfolding openHead
-  end-made = endAt-made _ _ _ _ _ _ _ (c .plan .few-tasks) m
+  start-is : meta2At (st .session .head) (sizeOf (st .lists)) m ≡ at
+  unfolding openHead meta2At
+  start-is = ap₂ (λ (h : Head) (size : ℕ → ℕ). meta2At h size m) (c .head-is) (c .sizes-are)
 
-  start-is : meta2At (st .session .head) m ≡ at
-  start-is = ap (λ (h : Head). meta2At h m) (c .head-is) ∙ start-made
-
-  end-is : endAt (st .session .head) m ≡ end
-  end-is = ap (λ (h : Head). endAt h m) (c .head-is) ∙ end-made
+  end-is : endAt (st .session .head) (sizeOf (st .lists)) m ≡ end
+  unfolding openHead endAt
+  end-is = ap₂ (λ (h : Head) (size : ℕ → ℕ). endAt h size m) (c .head-is) (c .sizes-are)
 
   tasks-are : st .session .head .n ≡ tasks o
-  unfolding openHead headOf
+  unfolding openHead
   tasks-are = ap (λ (h : Head). h .n) (c .head-is)
 
   pub closed-as-long : length (closeImage st) ≡ length (st .image)
@@ -106,29 +105,27 @@ module _ (o : Opening) (st : State) (c : Closable o st) where
   pub apart : meta1End (tasks o) ≤ at
   unfolding meta2Start
   apart =
-      let f = blocksize-facts (o .blocksize) (c .plan .block) in
-      omega (arith, meta1-before-data (o .blocksize) (tasks o) (omega arith))
+      let f = blocksize-facts (o .plan .blocksize) (c .plan .block) in
+      omega (arith, meta1-before-data (o .plan .blocksize) (tasks o) (omega arith))
 
   pub end-after : end ≡ at + meta2Length (tasks o) m
   unfolding meta2End
   end-after = refl
 
   fields-there : take 12 (drop (lastAt (tasks o)) (closeImage st)) ≡ lastFields (isBig (openHead o)) m at
-  unfolding openHead headOf
+  unfolding openHead meta2At
   fields-there =
-      subst (λ (h : Head). take 12 (drop (lastAt (h .n)) (closeImage st)) ≡ lastFields (isBig h) m (meta2At h m)) (c .head-is)
-      (stores .fields)
-      ∙ ap (lastFields (isBig (openHead o)) m) start-made
+      by-opening (λ h size. take 12 (drop (lastAt (h .n)) (closeImage st)) ≡ lastFields (isBig h) m (meta2At h size m)) (stores .fields)
 
   abbrev pub values : Head → List ℕ
-  values h = meta2 (isBig h) (h .n) m (entry (st .session .counts)) (cell (st .table))
+  values h = meta2 (isBig h) (h .n) m (countOf (st .lists)) (cell (st .table))
 
   second-there : take (meta2Length (tasks o) m) (drop at (closeImage st)) ≡ values (openHead o)
   second-there =
-      let size : endAt (openHead o) m - meta2At (openHead o) m ≡ meta2Length (tasks o) m =
-      omega (arith, end-made, start-made, end-after) in
-      ap₂ (λ (k b : ℕ). take k (drop b (closeImage st))) (sym size) (sym start-made)
-      ∙ subst (λ (h : Head). take (endAt h m - meta2At h m) (drop (meta2At h m) (closeImage st)) ≡ values h) (c .head-is) (stores .second)
+      let size : endAt (st .session .head) (sizeOf (st .lists)) m - meta2At (st .session .head) (sizeOf (st .lists)) m ≡ meta2Length (tasks o) m =
+      omega (arith, end-is, start-is, end-after) in
+      ap₂ (λ (k b : ℕ). take k (drop b (closeImage st))) (sym size) (sym start-is)
+      ∙ stores .second ∙ ap values (c .head-is)
 
   -- bytes that closing leaves: those before META1's last two fields, and those between META1 and META2
   before-kept : (j : ℕ) → j < lastAt (tasks o) → getD (closeImage st) j 0 ≡ getD (st .image) j 0
@@ -139,36 +136,30 @@ module _ (o : Opening) (st : State) (c : Closable o st) where
 
   -- ---- the cells, by what the opening was given
 
-  agree : cellsAgree (openHead o) (st .session .planned) (st .session .counts) (st .table) ≡ true
-  agree = subst (λ (h : Head). cellsAgree h (st .session .planned) (st .session .counts) (st .table) ≡ true) (c .head-is) (state .agree)
+  agree : valuesRule (tasks o) (st .session .planned) (holds (openHead o) (entry (o .sizes))) (countOf (st .lists)) (cell (st .table)) ≡ true
+  unfolding cellsAgree openHead
+  agree =
+      by-opening (λ h size. valuesRule (h .n) (st .session .planned) (holds h size) (countOf (st .lists)) (cell (st .table)) ≡ true) (state .agree)
 
-  pub closed-most : (i : ℕ) → i < tasks o → entry (st .session .counts) i ≤ m
+  pub closed-most : (i : ℕ) → i < tasks o → countOf (st .lists) i ≤ m
   closed-most i l = stores .most i (rw tasks-are l)
 
-  pub closed-reached : (i : ℕ) × (i < tasks o) × (entry (st .session .counts) i ≡ m)
+  pub closed-reached : (i : ℕ) × (i < tasks o) × (countOf (st .lists) i ≡ m)
   closed-reached = let (i, l, e) = stores .reached in (i, rw (sym tasks-are) l, e)
 
-  pub used : (i k : ℕ) → i < tasks o → k < entry (st .session .counts) i
-      → InRange 0 (capacity (o .blocksize) (entry (o .sizes) i)) (valueIn o st k i)
-  unfolding cellsAgree openHead headOf
-  used i k l u =
+  pub in-range : (i k : ℕ) → i < tasks o → k < countOf (st .lists) i
+      → InRange 0 (capacity (o .plan .blocksize) (entry (o .sizes) i)) (valueIn o st k i)
+  unfolding openHead holds
+  in-range i k l u =
       let there : k < st .session .planned = omega (arith, closed-most i l, closing .planned) in
-      let rule =
-      values-used (tasks o) (st .session .planned) (holds (openHead o)) (entry (st .session .counts)) (cell (st .table)) agree i k l
-      there u in
-      let held : holds (openHead o) i ≡ capacity (o .blocksize) (entry (o .sizes) i) =
-      holds-made _ _ _ _ _ _ _ (c .plan .few-tasks) i l in
-      within-natural 0 _ (valueIn o st k i) (rw held at rule)
+      within-natural 0 _ (valueIn o st k i) (values-used (tasks o) (st .session .planned) _ _ _ agree i k l there u)
 
-  pub not-used : (i k : ℕ) → i < tasks o → entry (st .session .counts) i ≤ k → k < m → valueIn o st k i ≡ unused
-  unfolding cellsAgree openHead headOf
-  not-used i k l u h =
-      values-unused (tasks o) (st .session .planned) (holds (openHead o)) (entry (st .session .counts)) (cell (st .table)) agree i k l
-      (omega (arith, closing .planned)) u
+  pub not-used : (i k : ℕ) → i < tasks o → countOf (st .lists) i ≤ k → k < m → valueIn o st k i ≡ unused
+  not-used i k l u h = values-unused (tasks o) (st .session .planned) _ _ _ agree i k l (omega (arith, closing .planned)) u
 
-  pub used-small : (i k : ℕ) → i < tasks o → k < entry (st .session .counts) i → natural (valueIn o st k i) ≤ maxSize
+  pub used-small : (i k : ℕ) → i < tasks o → k < countOf (st .lists) i → natural (valueIn o st k i) ≤ maxSize
   used-small i k l u =
-      omega (arith, used i k l u .2, capacity-small (o .blocksize) (entry (o .sizes) i) (sound-size (plan-sound o (c .plan)) i l .1))
+      omega (arith, in-range i k l u .2, capacity-small (o .plan .blocksize) (entry (o .sizes) i) (sound-size (plan-sound o (c .plan)) i l .1))
 
   -- ---- the image, whatever follows it
 
@@ -185,7 +176,7 @@ module _ (o : Opening) (st : State) (c : Closable o st) where
         simp length-append
         (omega (arith, length-said, length-take-le (closeAnswer st .length) (closeImage st) (omega (arith, length-said, image-long))))
 
-    pub meta1-there : take (meta1End (tasks o)) (closedAs st tail) ≡ meta1 (openHead o) (o .prefix) m at
+    pub meta1-there : take (meta1End (tasks o)) (closedAs st tail) ≡ meta1 (openHead o) (entry (o .ranks)) (entry (o .sizes)) (o .prefix) m at
     unfolding meta1 meta1End
     meta1-there =
         let n : ℕ = tasks o in

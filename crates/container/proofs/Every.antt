@@ -1,5 +1,5 @@
 -- Every container is accepted, with a table that is long enough, and what is handed back is what it says. Assumes nothing.
-use mathlib.Core.Path.{_≡_, sym, ap, _∙_}
+use mathlib.Core.Path.{_≡_, refl, sym, ap, _∙_}
 use mathlib.Core.Bool.{Bool, true}
 use mathlib.Core.List.{List}
 use mathlib.Core.Logic.{inr}
@@ -15,35 +15,48 @@ use Rattle.endian.proofs.Below.{length-list, getD-list}
 use Rattle.endian.proofs.Signed.{within-holds}
 use Rattle.endian.proofs.Splice.{length-splice, getD-splice-in, getD-splice-out}
 use Rattle.layout.specs.Limits.{maxTasks, maxSize, maxRank, maxBlocks, blocksizeRule, tasksRule, ranksRule, sizesRule, maxchunksRule}
-use Rattle.layout.specs.Areas.{meta1End, meta2Start}
+use Rattle.layout.specs.Areas.{meta1End, meta2Start, meta2End}
 use Rattle.layout.proofs.Power.{power-within, blocksize-holds}
 use Rattle.meta.specs.declared.head.Head.{Head}
 use Rattle.meta.specs.Meta1
 use Rattle.meta.specs.Meta2
-use Rattle.meta.specs.Heads.{entry, cell, filled, orderOf, holds, headOf, meta2At}
-use Rattle.meta.specs.Judge.{bigIn, tasksIn, maxchunksIn, headIn, countsIn, valuesIn}
+use Rattle.meta.specs.Heads.{cell, listsOf, orderOf, holds, headOf, meta2At, endAt}
+use Rattle.meta.specs.Judge.{bigIn, tasksIn, maxchunksIn, headIn, rankIn, sizeIn, meta2In, countIn, valuesIn}
 use Rattle.meta.proofs.Refusals.{when-accepted}
-use Rattle.meta.proofs.Rules.{ranks-hold, sizes-hold, counts-hold, values-hold, valueIndex-lt}
-use Rattle.meta.proofs.Filled.{length-filled, entry-filled, entry-past, filled-cong}
-use Rattle.meta.proofs.Heads.{isBig-order, holds-made, meta2At-made, endAt-made}
+use Rattle.meta.proofs.Rules.{ranks-hold, sizes-hold, counts-hold, values-hold, values-agree, valueIndex-lt}
+use Rattle.meta.proofs.Stripes.{length-lists, lists-agree, rank-at, size-at, count-at, rank-made, size-made, count-made, rank-past, size-past, count-past}
+use Rattle.meta.proofs.Heads.{isBig-order, holds-agree, meta2At-agree, endAt-agree}
 use Rattle.meta.proofs.Accepting.{Meta1Holds, marked-holds, order-forced, Meta2Holds}
 use Rattle.reading.specs.declared.record.Loaded.{Loaded}
+use Rattle.reading.specs.declared.record.LoadAnswer.{LoadAnswer}
 use Rattle.reading.specs.Records.{loadedOf}
 use Rattle.container.specs.Format.{Contents, HasMeta1, HasMeta2, partOf, valueOf}
-use Rattle.reading.specs.Load.{partIn, loadedIn, loadRefusal, loadAnswer, loadTable}
+use Rattle.reading.specs.Load.{meta2Bytes, loadedIn, listsIn, loadRefusal, checkAnswer, loadAnswer, loadTable}
 use Rattle.container.specs.Demands.{Lists, Recorded, Says}
 use Rattle.reading.proofs.LoadTests.{load-holds, load-passes}
 
 abbrev pub headSaid : Contents → Head
-headSaid s = headOf (orderOf (s .big)) (s .version) (s .patch) (s .blocksize) (s .n) (s .rank) (s .size)
+headSaid s = headOf (orderOf (s .big)) (s .version) (s .patch) (s .blocksize) (s .n)
 
--- a filled list, entry by entry
-pub lists-filled : (n : ℕ) (f : ℕ → ℕ) (xs : List ℕ) → n ≤ maxTasks → xs ≡ filled n f → Lists n f xs
-lists-filled n f xs few e = record {
-  entries = λ i l. rw e (entry-filled n f i few l);
-  zeros = λ i l h. rw e (entry-past n f i l h);
-  as-many = ap length e ∙ length-filled n f;
-}
+abbrev pub listsSaid : Contents → List ℕ
+listsSaid s = listsOf (s .n) (s .rank) (s .size) (s .count)
+
+-- lists that were made, entry by entry
+pub lists-hold : (n : ℕ) (rank size count : ℕ → ℕ) → n ≤ maxTasks → {lists : List ℕ} → lists ≡ listsOf n rank size count
+    → Lists n rank size count lists
+lists-hold n rank size count few {lists} e =
+    let made : List ℕ = listsOf n rank size count in
+    rw e (record {
+      ranks = λ i l. rank-at made i (omega arith) ∙ rank-made n rank size count few i l;
+      sizes = λ i l. size-at made i (omega arith) ∙ size-made n rank size count few i l;
+      counts = λ i l. count-at made i (omega arith) ∙ count-made n rank size count few i l;
+      zeros = λ i past l. (
+        rank-at made i l ∙ rank-past n rank size count i past l,
+        size-at made i l ∙ size-past n rank size count i past l,
+        count-at made i l ∙ count-past n rank size count i past l,
+      );
+      as-many = length-lists n rank size count;
+    })
 
 module _ (image : List ℕ) (s : Contents) (one : HasMeta1 image s) (two : HasMeta2 image s) where
   pub few : s .n ≤ maxTasks
@@ -90,12 +103,13 @@ module _ (image : List ℕ) (s : Contents) (one : HasMeta1 image s) (two : HasMe
   pub values-kept : (count : ℕ → ℕ) (f : ℕ → ℤ) → ((i : ℕ) → i < s .n → count i ≡ s .count i)
       → ((i k : ℕ) → i < s .n → k < s .count i → f (Meta2.valueIndex (s .n) k i) ≡ pos (s .written k i))
       → ((i k : ℕ) → i < s .n → s .count i ≤ k → k < s .maxchunks → f (Meta2.valueIndex (s .n) k i) ≡ Meta2.unused)
-      → Meta2.valuesRule (s .n) (s .maxchunks) (holds (headSaid s)) count f ≡ true
+      → Meta2.valuesRule (s .n) (s .maxchunks) (holds (headSaid s) (s .size)) count f ≡ true
+  unfolding holds
   values-kept count f counts used others =
       values-hold (s .n) (s .maxchunks) _ count f
       (λ i k l u.
       let v : k < s .count i = rw (counts i l) at u in
-      rw (holds-made _ _ _ _ _ (s .rank) (s .size) few i l, used i k l v)
+      rw (used i k l v)
       (within-holds 0 _ (s .written k i) zero-le (two .used-fit i k l v)))
       (λ i k l u h. others i k l (rw (counts i l) at u) h)
 
@@ -113,36 +127,39 @@ module _ (image : List ℕ) (s : Contents) (one : HasMeta1 image s) (two : HasMe
   unfolding maxchunksIn
   maxchunks-is = rw (big-is, tasks-is) (ap natural (one .maxchunks-is))
 
-  ranks-is : filled (tasksIn image) (λ i. natural (Meta1.rankField (bigIn image) image i)) ≡ filled (s .n) (s .rank)
-  ranks-is = rw (big-is, tasks-is) (filled-cong (s .n) _ _ (λ i l. ap natural (one .ranks-are i l)))
+  rank-is : (i : ℕ) → i < s .n → rankIn image i ≡ s .rank i
+  unfolding rankIn
+  rank-is i l = rw big-is (ap natural (one .ranks-are i l))
 
-  sizes-is : filled (tasksIn image) (λ i. natural (Meta1.sizeField (bigIn image) image (tasksIn image) i)) ≡ filled (s .n) (s .size)
-  sizes-is = rw (big-is, tasks-is) (filled-cong (s .n) _ _ (λ i l. ap natural (one .sizes-are i l)))
+  size-is : (i : ℕ) → i < s .n → sizeIn image i ≡ s .size i
+  unfolding sizeIn
+  size-is i l = rw (big-is, tasks-is) (ap natural (one .sizes-are i l))
 
   head-is : headIn image ≡ headSaid s
-  unfolding headIn headOf
+  unfolding headIn
   head-is = λ i. record {
     order = orderOf (big-is i);
     version = (ap (λ (b : Bool). Meta1.versionField b image) big-is ∙ one .version-is) i;
     patch = (ap (λ (b : Bool). Meta1.patchField b image) big-is ∙ one .patch-is) i;
     blocksize = ap natural (ap (λ (b : Bool). Meta1.blocksizeField b image) big-is ∙ one .blocksize-is) i;
     n = tasks-is i;
-    ranks = ranks-is i;
-    sizes = sizes-is i;
   }
 
-  start-said : meta2At (headSaid s) (s .maxchunks) ≡ meta2Start (s .blocksize) (s .n) (s .size) (s .maxchunks)
-  start-said = meta2At-made _ _ _ _ _ _ _ few (s .maxchunks)
+  start-said : meta2In image ≡ meta2Start (s .blocksize) (s .n) (s .size) (s .maxchunks)
+  unfolding meta2In meta2At
+  start-said = rw (head-is, maxchunks-is) (meta2At-agree (headSaid s) (sizeIn image) (s .size) size-is (s .maxchunks))
 
-  part-is : partIn image ≡ partOf image s
-  unfolding partIn
-  part-is =
-      rw (head-is, tasks-is, maxchunks-is) (ap (λ (at : ℕ). Meta2.meta2Part image at (s .n) (s .maxchunks)) start-said)
+  end-said : endAt (headIn image) (sizeIn image) (maxchunksIn image) ≡ meta2End (s .blocksize) (s .n) (s .size) (s .maxchunks)
+  unfolding endAt
+  end-said = rw (head-is, maxchunks-is) (endAt-agree (headSaid s) (sizeIn image) (s .size) size-is (s .maxchunks))
 
-  counts-said : countsIn (headSaid s) (s .maxchunks) (partOf image s) ≡ filled (s .n) (s .count)
-  unfolding countsIn headOf
-  counts-said =
-      rw (isBig-order (s .big)) (filled-cong (s .n) _ _ (λ i l. ap natural (two .counts-are i l)))
+  part-is : meta2Bytes image ≡ partOf image s
+  unfolding meta2Bytes
+  part-is = rw (tasks-is, maxchunks-is, start-said)
+
+  count-is : (i : ℕ) → i < s .n → countIn (headSaid s) (partOf image s) i ≡ s .count i
+  unfolding countIn
+  count-is i l = rw (isBig-order (s .big)) (ap natural (two .counts-are i l))
 
   -- ---- its tests pass
 
@@ -159,19 +176,16 @@ module _ (image : List ℕ) (s : Contents) (one : HasMeta1 image s) (two : HasMe
     ranks = rw (big-is, tasks-is) (ranks-kept _ (one .ranks-are));
     sizes = rw (big-is, tasks-is) (sizes-kept _ (one .sizes-are));
     maxchunks = rw (big-is, tasks-is, one .maxchunks-is) maxchunks-kept;
-    start-is = rw (big-is, tasks-is, head-is, maxchunks-is) (one .start-is ∙ ap pos (sym start-said));
-    fits = rw (head-is, maxchunks-is, endAt-made _ _ _ _ _ (s .rank) (s .size) few (s .maxchunks)) (two .fits);
+    start-is = rw (big-is, tasks-is, start-said) (one .start-is);
+    fits = rw end-said (two .fits);
   }
 
-  entry-said : (i : ℕ) → i < s .n
-      → entry (countsIn (headSaid s) (s .maxchunks) (partOf image s)) i ≡ s .count i
-  entry-said i l = rw counts-said (entry-filled (s .n) (s .count) i few l)
-
-  second-holds : Meta2Holds (headSaid s) (s .maxchunks) (partOf image s)
-  unfolding headOf
+  second-holds : Meta2Holds (headSaid s) (sizeIn image) (s .maxchunks) (partOf image s)
   second-holds = record {
     counts = rw (isBig-order (s .big)) (counts-kept _ (two .counts-are));
-    values = rw (isBig-order (s .big)) (values-kept _ _ entry-said (two .used-first) (two .others-unused));
+    values =
+        values-agree (s .n) (s .maxchunks) _ _ _ _ _ _ (holds-agree (headSaid s) (sizeIn image) (s .size) size-is) (λ i l. refl) (λ j l. refl)
+        ∙ rw (isBig-order (s .big)) (values-kept _ _ count-is (two .used-first) (two .others-unused));
   }
 
   pub every : (cells : ℕ) → s .n * s .maxchunks ≤ cells → loadRefusal image cells ≡ 0
@@ -187,13 +201,23 @@ module _ (image : List ℕ) (s : Contents) (one : HasMeta1 image s) (two : HasMe
   values = listBelow (s .n * s .maxchunks) (Meta2.valueField (s .big) (partOf image s) (s .n))
 
   values-said : valuesIn (headSaid s) (s .maxchunks) (partOf image s) ≡ values
-  unfolding valuesIn headOf
+  unfolding valuesIn
   values-said = rw (isBig-order (s .big))
 
   module _ (table : List ℤ) (accepted : loadRefusal image (length table) ≡ 0) where
-    pub loaded-is : loadAnswer image table .loaded ≡ loadedOf (headSaid s) (filled (s .n) (s .count)) (s .maxchunks) 0
-    unfolding loadAnswer loadedIn
-    loaded-is = rw (when-accepted _ _ _ accepted, head-is, maxchunks-is, part-is, counts-said)
+    answer-is : loadAnswer image table ≡ record { loaded = loadedIn image; lists = listsIn image; refusal = 0 }
+    unfolding loadAnswer checkAnswer
+    answer-is = when-accepted _ _ _ accepted
+
+    pub loaded-is : loadAnswer image table .loaded ≡ loadedOf (headSaid s) (s .maxchunks) 0
+    unfolding loadedIn
+    loaded-is = rw (answer-is, head-is, maxchunks-is)
+
+    pub lists-are : loadAnswer image table .lists ≡ listsSaid s
+    unfolding listsIn
+    lists-are =
+        ap (λ (a : LoadAnswer). a .lists) answer-is
+        ∙ rw (tasks-is, head-is, part-is) (lists-agree (s .n) _ _ _ _ _ _ rank-is size-is count-is)
 
     table-is : loadTable image table ≡ splice table 0 values
     unfolding loadTable
@@ -214,8 +238,7 @@ module _ (image : List ℕ) (s : Contents) (one : HasMeta1 image s) (two : HasMe
         (rw zero-add at (getD-splice-in table 0 values fits j (pos 0) (rw length-list below))
         ∙ getD-list _ _ j (pos 0) below)
 
-    recorded : Recorded s (loadAnswer image table .loaded)
-    unfolding headOf
+    recorded : Recorded s (loadAnswer image table .loaded) (loadAnswer image table .lists)
     recorded =
         let e = loaded-is in record {
           order = ap (λ (l : Loaded). l .head .order) e;
@@ -223,14 +246,12 @@ module _ (image : List ℕ) (s : Contents) (one : HasMeta1 image s) (two : HasMe
           patch = ap (λ (l : Loaded). l .head .patch) e;
           blocksize = ap (λ (l : Loaded). l .head .blocksize) e;
           n = ap (λ (l : Loaded). l .head .n) e;
-          ranks = lists-filled (s .n) (s .rank) _ few (ap (λ (l : Loaded). l .head .ranks) e);
-          sizes = lists-filled (s .n) (s .size) _ few (ap (λ (l : Loaded). l .head .sizes) e);
-          counts = lists-filled (s .n) (s .count) _ few (ap (λ (l : Loaded). l .counts) e);
           maxchunks = ap (λ (l : Loaded). l .maxchunks) e;
           unmarked = ap (λ (l : Loaded). l .closed) e;
+          listed = lists-hold (s .n) (s .rank) (s .size) (s .count) few lists-are;
         }
 
-    pub says : Says s (loadAnswer image table .loaded) table (loadTable image table)
+    pub says : Says s (loadAnswer image table .loaded) (loadAnswer image table .lists) table (loadTable image table)
     says = record {
       recorded = recorded;
       used-cells = λ i k l u. cell-is i k l (omega (arith, two .counts-range i l)) ∙ two .used-first i k l u;

@@ -13,28 +13,29 @@ use Rattle.layout.specs.Areas.{meta1End, roundUp, dataStart, extended, capacity
 use Rattle.meta.specs.Refusals.{firstFailing}
 use Rattle.meta.specs.Meta1.{lastFields, meta1Front, meta1, openingBytes}
 use Rattle.meta.specs.Meta2.{valueRule, valuesRule, countsRule, meta2}
-use Rattle.meta.specs.Heads.{filled, holds, startOf, meta2At, endAt, headOf, headSound, tooShort, cellsAgree, recordTests, isTask}
+use Rattle.meta.specs.Heads.{filled, listsOf, holds, startOf, meta2At, endAt, headSound, tooShort, cellsAgree, recordTests, isTask}
 use Rattle.reading.specs.Records.{loadedSound}
 use Rattle.session.proofs.Answers.{answer-long}
 use Rattle.session.specs.Records.{State, sessionSound, sessionTests}
-use Rattle.session.specs.Open.{shapeTests, numberTests, planTests, needsAnswer, openRefusal, opens, openHead, openSession, openAnswer, openImage, openTable}
+use Rattle.session.specs.Open.{shapeTests, numberTests, planTests, needsAnswer, openRefusal, opens, openHead, openSession, openLists, openAnswer, openImage, openTable}
 use Rattle.session.specs.Write.{Request, begun, inLast, room, spot, target, requestTests, writeRefusal, stored, afterWrite}
 use Rattle.session.specs.Close.{maxchunksOf, finished, closedImage, closeRefusal, closeAnswer, closeImage}
-use Rattle.meta.specs.Judge.{markedIn, bigIn, orderedIn, tasksIn, maxchunksIn, headIn, startTests, fieldTests, fixedTests, listTests, lastTests, meta1Tests, countsIn, valuesIn, meta2Tests}
-use Rattle.reading.specs.Load.{partIn, loadedIn, loadRefusal, loadAnswer, loadTable}
-use Rattle.reading.specs.Reads.{loadedTests, readTests, used, writtenIn, chunkBytes, chunkRefusal, chunkPart, partOf, partAnswer, streamOf, totalOf, totalAnswer, readRefusal, readAnswer, readOutput}
+use Rattle.meta.specs.Judge.{markedIn, bigIn, orderedIn, tasksIn, maxchunksIn, headIn, rankIn, sizeIn, meta2In}
+use Rattle.meta.specs.Judge.{startTests, fieldTests, fixedTests, listTests, lastTests, restTests, meta1Tests, countIn, valuesIn, meta2Tests}
+use Rattle.reading.specs.Load.{meta2Bytes, loadedIn, listsIn, loadRefusal, checkAnswer, loadAnswer, loadTable}
+use Rattle.reading.specs.Reads.{loadedTests, readTests, used, writtenIn, chunkBytes, chunkRefusal, chunkPart, chunkPlace, partAnswer, streamOf, totalOf, totalAnswer, readRefusal, readAnswer, readOutput}
 use Rattle.room.specs.Tally.{Plan, Ask, Tally, fate, answerTo, told}
 use Rattle.container.specs.Numbers.{Agrees, pTable, otherTable}
 
 both-tables : Agrees pTable × Agrees otherTable
 unfolding allBelow anyBelow sumBelow greatestBelow joinBelow flatten splice tasksRule powerOfTwo blocksizeRule sizesRule plannedRule
     maxchunksRule allDifferent ranksRule meta1End roundUp dataStart extended capacity extendedBefore globalskip chunkStart
-    meta2Start meta2Length meta2End firstFailing lastFields meta1Front meta1 openingBytes valueRule valuesRule countsRule meta2 filled headSound
-    sessionSound loadedSound tooShort cellsAgree recordTests shapeTests numberTests planTests holds startOf meta2At endAt headOf needsAnswer openRefusal opens openHead openSession
+    meta2Start meta2Length meta2End firstFailing lastFields meta1Front meta1 openingBytes valueRule valuesRule countsRule meta2 filled listsOf headSound
+    sessionSound loadedSound tooShort cellsAgree recordTests shapeTests numberTests planTests holds startOf meta2At endAt needsAnswer openRefusal opens openHead openSession openLists
     openAnswer openImage openTable sessionTests begun inLast room spot target requestTests stored maxchunksOf finished
-    closedImage writeRefusal afterWrite closeRefusal closeAnswer closeImage markedIn bigIn orderedIn tasksIn maxchunksIn headIn
-    startTests fieldTests fixedTests listTests lastTests meta1Tests countsIn valuesIn meta2Tests partIn loadedIn loadRefusal loadAnswer loadTable loadedTests readTests used writtenIn chunkBytes
-    chunkRefusal chunkPart partOf partAnswer streamOf totalOf totalAnswer readRefusal readAnswer readOutput fate told pTable otherTable
+    closedImage writeRefusal afterWrite closeRefusal closeAnswer closeImage markedIn bigIn orderedIn tasksIn maxchunksIn headIn rankIn sizeIn meta2In
+    startTests fieldTests fixedTests listTests lastTests restTests meta1Tests countIn valuesIn meta2Tests meta2Bytes loadedIn listsIn loadRefusal checkAnswer loadAnswer loadTable loadedTests readTests used writtenIn chunkBytes
+    chunkRefusal chunkPart chunkPlace partAnswer streamOf totalOf totalAnswer readRefusal readAnswer readOutput fate told pTable otherTable
 both-tables = (
   (refl, (refl, (refl, (refl, (refl, (refl, (refl, (refl, (refl, (refl, (refl, (refl, (refl, tt))))))))))))),
   (refl, (refl, (refl, (refl, (refl, (refl, (refl, (refl, (refl, (refl, (refl, (refl, tt)))))))))))),

@@ -1,6 +1,6 @@
 -- What the loader accepts is a container: of an image whose tests pass, what its fields say keeps each rule. Assumes nothing.
-use mathlib.Core.Path.{_≡_, refl, sym, ap, _∙_}
-use mathlib.Core.Bool.{true}
+use mathlib.Core.Path.{_≡_, refl, sym, ap, _∙_, subst}
+use mathlib.Core.Bool.{Bool, true}
 use mathlib.Core.List.{List}
 use Prim.Native.Nat.{ℕ, _*_, _≤_, _<_}
 use native.Mathlib.Omega.{arith}
@@ -9,18 +9,17 @@ use lib.ListN.{length}
 use Rattle.endian.specs.Signed.{natural}
 use Rattle.endian.proofs.Signed.{InRange, within-natural}
 use Rattle.layout.specs.Limits.{maxTasks, maxSize, maxRank, maxBlocks, blocksizeRule, tasksRule, maxchunksRule}
-use Rattle.layout.specs.Areas.{meta1End, capacity, meta2End}
+use Rattle.layout.specs.Areas.{meta1End, meta2End}
 use Rattle.layout.proofs.Power.{blocksize-facts, power-of-two}
 use Rattle.meta.specs.Meta1
 use Rattle.meta.specs.Meta2
-use Rattle.meta.specs.Heads.{entry, isBig, holds, headOf, endAt}
-use Rattle.meta.specs.Judge.{bigIn, tasksIn, maxchunksIn, headIn, countsIn}
+use Rattle.meta.specs.Heads.{isBig, holds, meta2At, endAt}
+use Rattle.meta.specs.Judge.{bigIn, tasksIn, maxchunksIn, headIn, rankIn, sizeIn, meta2In, countIn}
 use Rattle.meta.proofs.Rules.{blocksize-natural, ranks-within, ranks-differ, sizes-within, counts-within, counts-greatest, values-used, values-unused}
-use Rattle.meta.proofs.Filled.{entry-filled}
-use Rattle.meta.proofs.Heads.{isBig-order, holds-made, meta2At-made, endAt-made}
+use Rattle.meta.proofs.Heads.{isBig-order}
 use Rattle.meta.proofs.Accepting.{Meta1Holds, marked-is, Meta2Holds}
 use Rattle.container.specs.Format.{Contents, HasMeta1, HasMeta2, IsContainer, partOf}
-use Rattle.reading.specs.Load.{partIn, loadRefusal}
+use Rattle.reading.specs.Load.{meta2Bytes, loadRefusal}
 use Rattle.reading.proofs.LoadTests.{load-holds}
 
 -- what the fields of an image say
@@ -31,12 +30,12 @@ contentsIn image = record {
   patch = Meta1.patchField (bigIn image) image;
   blocksize = natural (Meta1.blocksizeField (bigIn image) image);
   n = tasksIn image;
-  rank = λ i. natural (Meta1.rankField (bigIn image) image i);
-  size = λ i. natural (Meta1.sizeField (bigIn image) image (tasksIn image) i);
+  rank = rankIn image;
+  size = sizeIn image;
   maxchunks = maxchunksIn image;
-  count = λ i. natural (Meta2.countField (bigIn image) (partIn image) i);
+  count = λ i. natural (Meta2.countField (bigIn image) (meta2Bytes image) i);
   written =
-      λ k i. natural (Meta2.valueField (bigIn image) (partIn image) (tasksIn image) (Meta2.valueIndex (tasksIn image) k i));
+      λ k i. natural (Meta2.valueField (bigIn image) (meta2Bytes image) (tasksIn image) (Meta2.valueIndex (tasksIn image) k i));
 }
 
 module _ (image : List ℕ) (first : Meta1Holds image (length image)) where
@@ -60,7 +59,7 @@ module _ (image : List ℕ) (first : Meta1Holds image (length image)) where
       within-natural 1 maxSize _ (sizes-within (tasksIn image) (Meta1.sizeField (bigIn image) image (tasksIn image)) (first .sizes) i l)
 
   has-meta1 : HasMeta1 image (contentsIn image)
-  unfolding meta1End tasksIn maxchunksIn headIn
+  unfolding meta1End tasksIn maxchunksIn rankIn sizeIn headIn meta2In meta2At
   has-meta1 =
       let b = blocksize-natural (Meta1.blocksizeField (bigIn image) image) (first .blocksize) in
       let rule : blocksizeRule (pos (contentsIn image .blocksize)) ≡ true = rw (b .0) at (first .blocksize) in
@@ -88,61 +87,57 @@ module _ (image : List ℕ) (first : Meta1Holds image (length image)) where
         sizes-range = λ i l. (size-in i l .1, size-in i l .2);
         maxchunks-is = maxchunks-in .0;
         maxchunks-range = maxchunks-in .2;
-        start-is = first .start-is ∙ ap pos (meta2At-made _ _ _ _ _ _ _ few (maxchunksIn image));
+        start-is = first .start-is;
       }
 
-  module _ (second : Meta2Holds (headIn image) (maxchunksIn image) (partIn image)) where
-    end-in : endAt (headIn image) (maxchunksIn image)
+  module _ (second : Meta2Holds (headIn image) (sizeIn image) (maxchunksIn image) (meta2Bytes image)) where
+    end-in : endAt (headIn image) (sizeIn image) (maxchunksIn image)
         ≡ meta2End (contentsIn image .blocksize) (tasksIn image) (contentsIn image .size) (maxchunksIn image)
+    unfolding headIn endAt
+    end-in = refl
+
+    part-in : partOf image (contentsIn image) ≡ meta2Bytes image
+    unfolding meta2Bytes meta2In meta2At headIn
+    part-in = refl
+
+    counts-in : Meta2.countsRule (tasksIn image) (maxchunksIn image) (Meta2.countField (bigIn image) (meta2Bytes image)) ≡ true
     unfolding headIn
-    end-in = endAt-made _ _ _ _ _ _ _ few (maxchunksIn image)
-
-    part-in : partOf image (contentsIn image) ≡ partIn image
-    unfolding partIn headIn
-    part-in =
-        ap (λ (s : ℕ). Meta2.meta2Part image s (tasksIn image) (maxchunksIn image))
-        (sym (meta2At-made _ _ _ _ _ _ _ few (maxchunksIn image)))
-
-    holds-in : (i : ℕ) → i < tasksIn image → holds (headIn image) i ≡ capacity (contentsIn image .blocksize) (contentsIn image .size i)
-    unfolding headIn
-    holds-in i l = holds-made _ _ _ _ _ _ _ few i l
-
-    entry-in : (i : ℕ) → i < tasksIn image
-        → entry (countsIn (headIn image) (maxchunksIn image) (partIn image)) i ≡ contentsIn image .count i
-    unfolding countsIn headIn headOf
-    entry-in i l =
-        entry-filled (tasksIn image) (λ i. natural (Meta2.countField (isBig (headIn image)) (partIn image) i)) i few l
-        ∙ rw (isBig-order (bigIn image))
-
-    counts-in : Meta2.countsRule (tasksIn image) (maxchunksIn image) (Meta2.countField (bigIn image) (partIn image)) ≡ true
-    unfolding headIn headOf
     counts-in = rw (isBig-order (bigIn image)) at (second .counts)
 
-    count-in : (i : ℕ) → i < tasksIn image → InRange 0 (maxchunksIn image) (Meta2.countField (bigIn image) (partIn image) i)
-    count-in i l = within-natural 0 _ _ (counts-within _ _ (Meta2.countField (bigIn image) (partIn image)) counts-in i l)
+    count-in : (i : ℕ) → i < tasksIn image → InRange 0 (maxchunksIn image) (Meta2.countField (bigIn image) (meta2Bytes image) i)
+    count-in i l = within-natural 0 _ _ (counts-within _ _ (Meta2.countField (bigIn image) (meta2Bytes image)) counts-in i l)
 
-    values-in : Meta2.valuesRule (tasksIn image) (maxchunksIn image) (holds (headIn image))
-        (entry (countsIn (headIn image) (maxchunksIn image) (partIn image)))
-        (Meta2.valueField (bigIn image) (partIn image) (tasksIn image)) ≡ true
-    unfolding headIn headOf
-    values-in = rw (isBig-order (bigIn image)) at (second .values)
+    big-in : isBig (headIn image) ≡ bigIn image
+    unfolding headIn
+    big-in = isBig-order (bigIn image)
+
+    values-in : Meta2.valuesRule (tasksIn image) (maxchunksIn image) (holds (headIn image) (sizeIn image)) (contentsIn image .count)
+        (Meta2.valueField (bigIn image) (meta2Bytes image) (tasksIn image)) ≡ true
+    unfolding headIn countIn
+    values-in =
+        subst
+        (λ (big : Bool).
+        Meta2.valuesRule (tasksIn image) (maxchunksIn image) (holds (headIn image) (sizeIn image))
+        (λ i. natural (Meta2.countField big (meta2Bytes image) i))
+        (Meta2.valueField big (meta2Bytes image) (tasksIn image))
+        ≡ true)
+        big-in (second .values)
 
     used-in : (i k : ℕ) → i < tasksIn image → k < contentsIn image .count i
-        → InRange 0 (holds (headIn image) i)
-        (Meta2.valueField (bigIn image) (partIn image) (tasksIn image) (Meta2.valueIndex (tasksIn image) k i))
-    used-in i k l u =
-        within-natural 0 _ _ (values-used _ _ _ _ _ values-in i k l (omega (arith, count-in i l .2)) (rw (entry-in i l) u))
+        → InRange 0 (holds (headIn image) (sizeIn image) i)
+        (Meta2.valueField (bigIn image) (meta2Bytes image) (tasksIn image) (Meta2.valueIndex (tasksIn image) k i))
+    used-in i k l u = within-natural 0 _ _ (values-used _ _ _ _ _ values-in i k l (omega (arith, count-in i l .2)) u)
 
     has-meta2 : HasMeta2 image (contentsIn image)
-    unfolding tasksIn
+    unfolding tasksIn headIn holds
     has-meta2 = record {
       fits = rw end-in at (first .fits);
       counts-are = λ i l. rw part-in (count-in i l .0);
       counts-range = λ i l. count-in i l .2;
-      greatest = counts-greatest _ _ (Meta2.countField (bigIn image) (partIn image)) counts-in (tasks-in .1);
+      greatest = counts-greatest _ _ (Meta2.countField (bigIn image) (meta2Bytes image)) counts-in (tasks-in .1);
       used-first = λ i k l u. rw part-in (used-in i k l u .0);
-      used-fit = λ i k l u. rw (holds-in i l) at (used-in i k l u .2);
-      others-unused = λ i k l u h. rw part-in (values-unused _ _ _ _ _ values-in i k l h (rw (entry-in i l) u));
+      used-fit = λ i k l u. used-in i k l u .2;
+      others-unused = λ i k l u h. rw part-in (values-unused _ _ _ _ _ values-in i k l h u);
     }
 
 pub only : (image : List ℕ) (cells : ℕ) → loadRefusal image cells ≡ 0 → (c : IsContainer image) × (c .says .n * c .says .maxchunks ≤ cells)

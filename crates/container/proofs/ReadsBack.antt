@@ -1,6 +1,6 @@
 -- What is read of a container, with the record and the table that loading handed back, is what the container says, and what is
 -- refused gets its own number. Assumes nothing.
-use mathlib.Core.Path.{_≡_, refl, sym, ap, _∙_}
+use mathlib.Core.Path.{_≡_, refl, sym, ap, ap₂, _∙_}
 use mathlib.Core.Bool.{true, false, and-false}
 use mathlib.Core.List.{List}
 use mathlib.Core.Logic.{_⊎_, ⊎-elim}
@@ -16,19 +16,20 @@ use Rattle.endian.proofs.Below.{sum-cong, join-cong}
 use Rattle.endian.proofs.Signed.{within-holds}
 use Rattle.meta.specs.Refusals.{firstFailing}
 use Rattle.meta.specs.Meta2.{valueIndex, unused}
-use Rattle.meta.specs.Heads.{entry, cell, filled, headOf, headSound, cellsAgree}
+use Rattle.meta.specs.Heads.{cell, rankOf, sizeOf, countOf, startOf, endAt, headSound, cellsAgree}
 use Rattle.meta.proofs.Refusals.{first-passes, first-fails, when-accepted}
-use Rattle.meta.proofs.Filled.{length-filled, entry-filled}
-use Rattle.meta.proofs.Heads.{order-sound, startOf-made, endAt-made}
+use Rattle.meta.proofs.Rules.{values-agree}
+use Rattle.meta.proofs.Stripes.{length-lists, rank-made, size-made, count-made}
+use Rattle.meta.proofs.Heads.{order-sound, holds-agree, startOf-agree, endAt-agree}
 use Rattle.reading.specs.declared.record.Loaded.{Loaded}
 use Rattle.reading.specs.Records.{loadedSound, loadedOf}
 use Rattle.container.specs.Format.{Contents, HasMeta1, HasMeta2}
 use Rattle.reading.specs.Load.{loadRefusal, loadAnswer, loadTable}
-use Rattle.reading.specs.Reads.{Container, containerOf, loadedTests, readTests, used, writtenIn, chunkBytes, chunkRefusal, chunkPart}
+use Rattle.reading.specs.Reads.{Container, containerOf, ReadAllowed, loadedTests, readTests, used, writtenIn, chunkBytes, chunkRefusal, chunkPart}
 use Rattle.reading.specs.Reads.{streamOf, totalOf, totalAnswer, readRefusal, readAnswer, readOutput}
-use Rattle.container.specs.Demands.{bytesSaid, streamSaid, totalSaid, Says, ReadsBack, RefusesBack}
-use Rattle.container.proofs.Every.{headSaid, few, block-kept, tasks-kept, maxchunks-kept, ranks-kept, sizes-kept, counts-kept, values-kept}
-use Rattle.container.proofs.Every.{loaded-is, room, says}
+use Rattle.container.specs.Demands.{loadedFrom, bytesSaid, streamSaid, totalSaid, Says, ReadsBack, RefusesBack}
+use Rattle.container.proofs.Every.{headSaid, listsSaid, few, block-kept, tasks-kept, maxchunks-kept, ranks-kept, sizes-kept, counts-kept, values-kept}
+use Rattle.container.proofs.Every.{loaded-is, lists-are, room, says}
 use Rattle.container.proofs.Refusing.{total-number, read-number}
 use Rattle.meta.proofs.Records.{record-passes}
 use Rattle.reading.proofs.Readable.{loaded-numbered, read-numbered, readable}
@@ -44,68 +45,77 @@ module _ (image : List ℕ) (s : Contents) (one : HasMeta1 image s) (two : HasMe
     (used-cells : (i k : ℕ) → i < s .n → k < s .count i → cell table (valueIndex (s .n) k i) ≡ pos (s .written k i))
     (unused-cells : (i k : ℕ) → i < s .n → s .count i ≤ k → k < s .maxchunks → cell table (valueIndex (s .n) k i) ≡ unused) where
   abbrev made : Loaded
-  made = loadedOf (headSaid s) (filled (s .n) (s .count)) (s .maxchunks) 0
+  made = loadedOf (headSaid s) (s .maxchunks) 0
 
   abbrev loaded : Container
-  loaded = containerOf made image table
+  loaded = containerOf made (listsSaid s) image table
 
-  entry-is : (f : ℕ → ℕ) (i : ℕ) → i < s .n → entry (filled (s .n) f) i ≡ f i
-  entry-is f i l = entry-filled (s .n) f i (few image s one two) l
+  rank-is : (i : ℕ) → i < s .n → rankOf (listsSaid s) i ≡ s .rank i
+  rank-is i l = rank-made (s .n) (s .rank) (s .size) (s .count) (few image s one two) i l
 
-  listed-is : (f : ℕ → ℕ) (i : ℕ) → i < s .n → pos (entry (filled (s .n) f) i) ≡ pos (f i)
-  listed-is f i l = ap pos (entry-is f i l)
+  size-is : (i : ℕ) → i < s .n → sizeOf (listsSaid s) i ≡ s .size i
+  size-is i l = size-made (s .n) (s .rank) (s .size) (s .count) (few image s one two) i l
+
+  count-is : (i : ℕ) → i < s .n → countOf (listsSaid s) i ≡ s .count i
+  count-is i l = count-made (s .n) (s .rank) (s .size) (s .count) (few image s one two) i l
 
   -- ---- its tests pass
 
-  loaded-sound : loadedSound made ≡ true
-  unfolding loadedSound headSound headOf
+  loaded-sound : loadedSound made (listsSaid s) ≡ true
+  unfolding loadedSound headSound
   loaded-sound =
       rw (
         order-sound (s .big),
         block-kept image s one two,
         tasks-kept image s one two,
-        ranks-kept image s one two _ (listed-is (s .rank)),
-        sizes-kept image s one two _ (listed-is (s .size)),
+        ranks-kept image s one two _ (λ i l. ap pos (rank-is i l)),
+        sizes-kept image s one two _ (λ i l. ap pos (size-is i l)),
         maxchunks-kept image s one two,
       )
-      (counts-kept image s one two _ (listed-is (s .count)))
+      (counts-kept image s one two _ (λ i l. ap pos (count-is i l)))
 
-  cells-agree : cellsAgree (headSaid s) (s .maxchunks) (filled (s .n) (s .count)) table ≡ true
-  unfolding cellsAgree headOf
-  cells-agree = values-kept image s one two _ _ (entry-is (s .count)) used-cells unused-cells
+  cells-agree : cellsAgree (headSaid s) (listsSaid s) (s .maxchunks) table ≡ true
+  unfolding cellsAgree
+  cells-agree =
+      values-agree (s .n) (s .maxchunks) _ _ _ _ _ _ (holds-agree (headSaid s) (sizeOf (listsSaid s)) (s .size) size-is) (λ i l. refl) (λ j l. refl)
+      ∙ values-kept image s one two _ _ count-is used-cells unused-cells
 
   loaded-passes : firstFailing (loadedTests loaded) ≡ 0
-  unfolding loadedTests headOf
+  unfolding loadedTests endAt
   loaded-passes =
-      record-passes 0 (loadedSound made) (headSaid s) (s .maxchunks) (filled (s .n) (s .count)) image table (record {
+      record-passes 0 (loadedSound made (listsSaid s)) (headSaid s) (listsSaid s) (s .maxchunks) image table (record {
         unmarked = refl;
         sound-is = loaded-sound;
-        image-long = rw (endAt-made _ _ _ _ _ (s .rank) (s .size) (few image s one two) (s .maxchunks)) (two .fits);
+        image-long = rw (endAt-agree (headSaid s) (sizeOf (listsSaid s)) (s .size) size-is (s .maxchunks)) (two .fits);
         table-long = wide;
         agree = cells-agree;
       })
 
   module _ (i : ℕ) (l : i < s .n) where
     passes : firstFailing (readTests loaded (i + 1)) ≡ 0
-    unfolding readTests firstFailing headOf
+    unfolding readTests firstFailing
     passes =
         first-passes (loadedTests loaded) _ (loaded-numbered loaded) loaded-passes
         ∙ rw (within-holds 1 (s .n) (i + 1) (omega arith) (omega arith))
+
+    allowed : ReadAllowed loaded (i + 1)
+    allowed = record { as-many = length-lists (s .n) (s .rank) (s .size) (s .count); passes = passes }
 
     -- ---- what is read is what the container says
 
     used-is : used loaded (i + 1) ≡ s .count i
     unfolding used
-    used-is = rw (add-sub-cancel i 1) (entry-is (s .count) i l)
+    used-is = rw (add-sub-cancel i 1) (count-is i l)
 
     written-is : (k : ℕ) → k < s .count i → writtenIn loaded (i + 1) (k + 1) ≡ s .written k i
-    unfolding writtenIn headOf
+    unfolding writtenIn
     written-is k u = rw (add-sub-cancel i 1, add-sub-cancel k 1) (ap natural (used-cells i k l u))
 
     bytes-are : (k : ℕ) → k < s .count i → chunkBytes loaded (i + 1) (k + 1) ≡ bytesSaid image s i k
-    unfolding chunkBytes bytesSaid
+    unfolding chunkBytes bytesSaid startOf
     bytes-are k u =
-        rw (written-is k u, startOf-made _ _ _ _ _ (s .rank) (s .size) (few image s one two) (i + 1) (k + 1) (omega arith))
+        let start = startOf-agree (headSaid s) (sizeOf (listsSaid s)) (s .size) size-is (i + 1) (k + 1) (omega arith) in
+        ap₂ (λ (n at : ℕ). take n (drop at image)) (written-is k u) start
 
     stream-is : streamOf loaded (i + 1) ≡ streamSaid image s i
     unfolding streamOf streamSaid
@@ -116,12 +126,11 @@ module _ (image : List ℕ) (s : Contents) (one : HasMeta1 image s) (two : HasMe
     total-is = rw used-is (sum-cong _ _ (s .count i) written-is)
 
     chunk-passes : (k : ℕ) → k < s .count i → chunkRefusal loaded (i + 1) (k + 1) ≡ 0
-    chunk-passes k u = chunk-allowed loaded (i + 1) (k + 1) passes (omega arith) (rw used-is (omega arith))
+    chunk-passes k u = chunk-allowed loaded (i + 1) (k + 1) allowed (omega arith) (rw used-is (omega arith)) .passes
 
     chunk-whole : (k : ℕ) → k < s .count i → length (bytesSaid image s i k) ≡ s .written k i
-    unfolding headOf
     chunk-whole k u =
-        let r = readable loaded (i + 1) (length-filled (s .n) (s .size)) passes in
+        let r = readable loaded (i + 1) allowed in
         ap length (sym (bytes-are k u)) ∙ chunk-length loaded (i + 1) r k (rw used-is u) ∙ written-is k u
 
     read-passes : (p : ℕ) → p ≤ totalSaid s i → readRefusal loaded (i + 1) p ≡ 0
@@ -145,7 +154,7 @@ module _ (image : List ℕ) (s : Contents) (one : HasMeta1 image s) (two : HasMe
   -- ---- what is refused
 
   tests-none : (task : ℕ) → (task ≡ 0) ⊎ (s .n < task) → firstFailing (readTests loaded task) ≡ 14
-  unfolding readTests firstFailing headOf
+  unfolding readTests firstFailing
   tests-none task none =
       first-passes (loadedTests loaded) _ (loaded-numbered loaded) loaded-passes ∙ rw (within-none (s .n) task none)
 
@@ -170,18 +179,18 @@ module _ (image : List ℕ) (s : Contents) (one : HasMeta1 image s) (two : HasMe
 
 module _ (image : List ℕ) (s : Contents) (one : HasMeta1 image s) (two : HasMeta2 image s) (table : List ℤ)
     (e : loadRefusal image (length table) ≡ 0) where
-  said : Says s (loadAnswer image table .loaded) table (loadTable image table)
+  said : Says s (loadAnswer image table .loaded) (loadAnswer image table .lists) table (loadTable image table)
   said = says image s one two table e
 
   wide-enough : s .n * s .maxchunks ≤ length (loadTable image table)
   wide-enough = rw (said .as-long) (room image s one two table e)
 
-  pub reads-back : ReadsBack image s (containerOf (loadAnswer image table .loaded) image (loadTable image table))
+  pub reads-back : ReadsBack image s (loadedFrom image table)
   reads-back =
-      rw (loaded-is image s one two table e)
+      rw (loaded-is image s one two table e, lists-are image s one two table e)
       (made-reads image s one two (loadTable image table) wide-enough (said .used-cells) (said .unused-cells))
 
-  pub refuses-back : RefusesBack s (containerOf (loadAnswer image table .loaded) image (loadTable image table))
+  pub refuses-back : RefusesBack s (loadedFrom image table)
   refuses-back =
-      rw (loaded-is image s one two table e)
+      rw (loaded-is image s one two table e, lists-are image s one two table e)
       (made-refuses image s one two (loadTable image table) wide-enough (said .used-cells) (said .unused-cells))

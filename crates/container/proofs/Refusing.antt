@@ -9,14 +9,14 @@ use lib.IntN.{ℤ}
 use lib.ListN.{length, take, drop}
 use borrow.Author.Tests.{eqb-true}
 use Rattle.meta.specs.Refusals.{Test, test, firstFailing}
-use Rattle.meta.specs.Judge.{startTests, fieldTests, fixedTests, listTests, lastTests, meta1Tests, meta2Tests}
+use Rattle.meta.specs.Judge.{startTests, fieldTests, fixedTests, listTests, lastTests, restTests, meta1Tests, meta2Tests}
 use Rattle.meta.proofs.Refusals.{Each, answered, when-refused, number-is}
-use Rattle.reading.specs.declared.record.Checked.{Checked}
+use Rattle.reading.specs.declared.record.LoadAnswer.{LoadAnswer}
 use Rattle.reading.specs.declared.record.Part.{Part}
-use Rattle.reading.specs.declared.record.Counted.{Counted}
+use Rattle.reading.specs.declared.record.ByteCount.{ByteCount}
 use Rattle.meta.specs.Heads.{recordTests, isTask}
 use Rattle.session.specs.declared.record.Needed.{Needed}
-use Rattle.session.specs.declared.record.Started.{Started}
+use Rattle.session.specs.declared.record.Opened.{Opened}
 use Rattle.session.specs.declared.record.Closed.{Closed}
 use Rattle.session.specs.Records.{State, sessionTests}
 use Rattle.session.specs.Open.{Opening, shapeTests, numberTests, planTests, openRefusal, opens, openAnswer}
@@ -24,8 +24,8 @@ use Rattle.session.specs.Write.{Request, room, spot, requestTests, writeRefusal
 use Rattle.session.specs.Close.{closeRefusal, closeAnswer, closeImage}
 use Rattle.session.proofs.Openings.{needs-number, needs-refused, open-plan, open-short, open-enough, refused-answer, refused-image, refused-table}
 use Rattle.session.proofs.Outcomes.{refused-keeps, empty-keeps}
-use Rattle.reading.specs.Load.{loadRefusal, loadAnswer, loadTable}
-use Rattle.reading.specs.Reads.{Container, loadedTests, readTests, chunkRefusal, chunkBytes, chunkPart, partOf, partAnswer, totalAnswer, readRefusal, readAnswer, readOutput}
+use Rattle.reading.specs.Load.{loadRefusal, checkAnswer, loadAnswer, loadTable}
+use Rattle.reading.specs.Reads.{Container, loadedTests, readTests, chunkRefusal, chunkBytes, chunkPart, chunkPlace, partAnswer, totalAnswer, readRefusal, readAnswer, readOutput}
 use Rattle.container.specs.Demands.{OneOf, loadNumbers, chunkNumbers, readNumbers, totalNumbers, needsNumbers, openNumbers, writeNumbers, closeNumbers}
 use Rattle.container.specs.Demands.{LoadRefuses, PartThere, ReadsRefuse, NeedsRefuses, OpenRefuses, WriteRefuses, CloseRefuses}
 
@@ -55,11 +55,11 @@ one-of-tests numbers ts h =
 
 module _ (image : List ℕ) (table : List ℤ) where
   pub load-number : loadAnswer image table .refusal ≡ loadRefusal image (length table)
-  unfolding loadAnswer
-  load-number = number-is (loadRefusal image (length table)) _ _ (λ (a : Checked). a .refusal) refl refl
+  unfolding loadAnswer checkAnswer
+  load-number = number-is (loadRefusal image (length table)) _ _ (λ (a : LoadAnswer). a .refusal) refl refl
 
   load-listed : OneOf (0 ∷ loadNumbers) (loadRefusal image (length table))
-  unfolding loadRefusal meta1Tests startTests fieldTests fixedTests listTests lastTests meta2Tests listed
+  unfolding loadRefusal meta1Tests startTests fieldTests fixedTests listTests lastTests restTests meta2Tests listed
   load-listed =
       one-of-tests loadNumbers _ (
         refl,
@@ -67,12 +67,13 @@ module _ (image : List ℕ) (table : List ℤ) where
       )
 
   pub load-refuses : LoadRefuses image table
-  unfolding loadAnswer loadTable
+  unfolding loadAnswer checkAnswer loadTable
   load-refuses = record {
     numbered = rw load-number load-listed;
     nothing-moved =
         λ l. let r : 0 < loadRefusal image (length table) = rw load-number at l in
-        (when-refused _ _ _ r, ap (λ (a : Checked). a .loaded) (when-refused _ _ _ r));
+        let e = when-refused (loadRefusal image (length table)) _ _ r in
+        (when-refused _ _ _ r, ap (λ (a : LoadAnswer). a .loaded) e, ap (λ (a : LoadAnswer). a .lists) e);
   }
 
 -- ---- the reads
@@ -80,24 +81,24 @@ module _ (image : List ℕ) (table : List ℤ) where
 module _ (c : Container) (task : ℕ) where
   pub total-number : totalAnswer c task .refusal ≡ firstFailing (readTests c task)
   unfolding totalAnswer
-  total-number = number-is (firstFailing (readTests c task)) _ _ (λ (a : Counted). a .refusal) refl refl
+  total-number = number-is (firstFailing (readTests c task)) _ _ (λ (a : ByteCount). a .refusal) refl refl
 
   pub read-number : (p : ℕ) (out : List ℕ) → readAnswer c task p out .refusal ≡ readRefusal c task p
   unfolding readAnswer
-  read-number p out = number-is (readRefusal c task p) _ _ (λ (a : Counted). a .refusal) refl refl
+  read-number p out = number-is (readRefusal c task p) _ _ (λ (a : ByteCount). a .refusal) refl refl
 
   pub part-there : (chunk : ℕ) → PartThere c task chunk
-  unfolding partAnswer partOf chunkPart chunkBytes
+  unfolding partAnswer chunkPlace chunkPart chunkBytes
   part-there chunk = go (eqb (chunkRefusal c task chunk) 0)
     where
       go : (b : Bool)
-          → let part = cond b (partOf c task chunk) (record { refusal = chunkRefusal c task chunk; start = 0; length = 0 }) in
+          → let part = cond b (chunkPlace c task chunk) (record { refusal = chunkRefusal c task chunk; start = 0; length = 0 }) in
           take (part .length) (drop (part .start) (c .image)) ≡ cond b (chunkBytes c task chunk) []
       go true = refl
       go false = refl
 
   pub reads-refuse : ReadsRefuse c task
-  unfolding chunkRefusal chunkPart partAnswer partOf totalAnswer readRefusal readAnswer readOutput loadedTests readTests recordTests listed
+  unfolding chunkRefusal chunkPart partAnswer chunkPlace totalAnswer readRefusal readAnswer readOutput loadedTests readTests recordTests listed
   reads-refuse = record {
     chunk-numbered = λ chunk. one-of-tests chunkNumbers _ (refl, (refl, (refl, (refl, (refl, tt)))));
     chunk-empty = λ chunk l. when-refused _ _ _ l;
@@ -106,9 +107,9 @@ module _ (c : Container) (task : ℕ) where
         (ap (λ (a : Part). a .start) e, ap (λ (a : Part). a .length) e);
     read-numbered = λ p out. rw read-number (one-of-tests readNumbers _ (refl, (refl, (refl, (refl, (refl, tt))))));
     read-nothing = λ p out l. let r : 0 < readRefusal c task p = rw read-number at l in
-        (ap (λ (a : Counted). a .bytes) (when-refused _ _ _ r), when-refused _ _ _ r);
+        (ap (λ (a : ByteCount). a .bytes) (when-refused _ _ _ r), when-refused _ _ _ r);
     total-numbered = rw total-number (one-of-tests totalNumbers _ (refl, (refl, (refl, (refl, tt)))));
-    total-nothing = λ l. ap (λ (a : Counted). a .bytes) (when-refused _ _ _ (rw total-number at l));
+    total-nothing = λ l. ap (λ (a : ByteCount). a .bytes) (when-refused _ _ _ (rw total-number at l));
   }
 
 -- ---- opening, writing and closing
@@ -116,7 +117,7 @@ module _ (c : Container) (task : ℕ) where
 module _ (o : Opening) (image : List ℕ) (table : List ℤ) where
   pub open-number : openAnswer o image table .refusal ≡ openRefusal o (length image) (length table)
   unfolding openAnswer opens
-  open-number = number-is (openRefusal o (length image) (length table)) _ _ (λ (a : Started). a .refusal) refl refl
+  open-number = number-is (openRefusal o (length image) (length table)) _ _ (λ (a : Opened). a .refusal) refl refl
 
   open-listed : OneOf (0 ∷ openNumbers) (openRefusal o (length image) (length table))
   unfolding openRefusal planTests shapeTests numberTests listed
@@ -143,7 +144,8 @@ module _ (o : Opening) (image : List ℕ) (table : List ℤ) where
         λ l. let r : 0 < openRefusal o (length image) (length table) = rw open-number at l in (
           refused-image o image table r,
           refused-table o image table r,
-          ap (λ (a : Started). a .session) (refused-answer o image table r),
+          ap (λ (a : Opened). a .session) (refused-answer o image table r),
+          ap (λ (a : Opened). a .lists) (refused-answer o image table r),
         );
   }
 

@@ -6,9 +6,9 @@ use native.Mathlib.Nat.{zero-add}
 use native.Mathlib.Omega.{arith}
 use lib.IntN.{ℤ}
 use lib.ListN.{length}
-use Rattle.meta.specs.Heads.{endAt, headOf}
+use Rattle.meta.specs.Heads.{entry, endAt}
 use Rattle.session.specs.Records.{State}
-use Rattle.session.specs.Open.{Opening, tasks, openRefusal, openHead, opened}
+use Rattle.session.specs.Open.{Opening, tasks, openRefusal, openHead, openSession, opened}
 use Rattle.session.specs.Write.{Request, writeRefusal, writes, refusals}
 use Rattle.room.specs.Tally.{Plan, planOf, blank, askOf, asks, answers, fateIn, answerTo, told, toldAll, held}
 use Rattle.room.proofs.Share.{Good, good-blank, good-all, refused-full, at-most, alone}
@@ -23,27 +23,23 @@ module _ (o : Opening) (image : List ℕ) (table : List ℤ) (zero : openRefusal
   abbrev start : State
   start = opened o image table
 
-  same : planIn (openHead o) (o .planned) ≡ planOf o
+  same : planIn (openSession o) (entry (o .sizes)) ≡ planOf o
   same = sym (plan-is o image table zero)
 
-  first : Follows (openHead o) (o .planned) blank start
+  first : Follows (openSession o) (entry (o .sizes)) blank start
   first = opened-follows o image table zero
 
-  tasks-are : openHead o .n ≡ tasks o
-  unfolding openHead headOf
-  tasks-are = refl
-
   module _ (qs : List Request) where
-    run : Runs (openHead o) (o .planned) blank start qs
+    run : Runs (openSession o) (entry (o .sizes)) blank start qs
     run = runs first qs
 
     as-tally : refusals start qs ≡ answers (planOf o) blank (asks qs)
     as-tally = run .numbers-are ∙ ap (λ (p : Plan). answers p blank (asks qs)) same
 
     -- what a task holds, and its tally
-    good : (task : ℕ) → Good (o .planned) (planOf o .c task) (toldAll (planOf o) blank (asks qs) task) (held task (asks qs) (refusals start qs))
+    good : (task : ℕ) → Good (o .plan .planned) (planOf o .c task) (toldAll (planOf o) blank (asks qs) task) (held task (asks qs) (refusals start qs))
     good task =
-        rw (zero-add, ← as-tally) at (good-all (planOf o) task (asks qs) blank 0 (good-blank (o .planned) (planOf o .c task)))
+        rw (zero-add, ← as-tally) at (good-all (planOf o) task (asks qs) blank 0 (good-blank (o .plan .planned) (planOf o .c task)))
 
     next-number : (q : Request) → writeRefusal (writes start qs) q ≡ answerTo (fateIn (planOf o) (toldAll (planOf o) blank (asks qs)) (askOf q))
     next-number q =
@@ -63,10 +59,11 @@ module _ (o : Opening) (image : List ℕ) (table : List ℤ) (zero : openRefusal
     image-is : writes start qs .image ≡ imageAfter (planOf o) blank (start .image) qs
     image-is = run .image-is ∙ ap (λ (p : Plan). imageAfter p blank (start .image) qs) same
 
-    layout : Layout (o .blocksize) (endAt (openHead o) (o .planned)) (planOf o)
+    layout : Layout (o .plan .blocksize) (endAt (openHead o) (entry (o .sizes)) (o .plan .planned)) (planOf o)
     layout = opened-layout o image table zero
 
     placed-hold : Placed o start qs
+    unfolding openSession openHead
     placed-hold = record {
       lands = λ l. rw image-is (placed _ _ (planOf o) layout (start .image) (first .image-long) (sane-blank (planOf o)) l);
       others = λ at none. rw image-is (others _ _ (planOf o) layout qs blank (start .image) at (first .image-long) (sane-blank (planOf o)) none);
@@ -76,17 +73,16 @@ module _ (o : Opening) (image : List ℕ) (table : List ℤ) (zero : openRefusal
 
     -- ---- the record and the table
 
-    last : Follows (openHead o) (o .planned) (toldAll (planOf o) blank (asks qs)) (writes start qs)
+    last : Follows (openSession o) (entry (o .sizes)) (toldAll (planOf o) blank (asks qs)) (writes start qs)
     last = rw same at (run .follows)
 
     kept-hold : Kept o start qs
-    unfolding openHead headOf
+    unfolding openSession openHead
     kept-hold = record {
-      head = last .head-is ∙ sym (first .head-is);
-      planned = last .planned-is ∙ sym (first .planned-is);
-      closed = last .unmarked ∙ sym (first .unmarked);
+      session = last .session-is ∙ sym (first .session-is);
       counts = λ i l. last .counts-are i l;
-      other-counts = run .other-counts;
+      other-entries = run .other-entries;
+      lists-as-long = last .as-many ∙ sym (first .as-many);
       last-cells = λ i k l e. last .cells-are i k l (omega (arith, e, good (i + 1) .most)) .last e;
       later-cells = λ i k l e m. last .cells-are i k l m .none e;
       next-cells = λ q i k l d.

@@ -6,50 +6,41 @@ use Prim.Native.Nat.{ℕ, _+_, _-_, _*_, _≤_, _<_}
 use native.Mathlib.Nat.{zero-add}
 use native.Mathlib.Omega.{arith}
 use lib.IntN.{ℤ}
-use lib.ListN.{length, take, drop, getD, replicate, length-replicate, getD-replicate}
+use lib.ListN.{length, take, drop, getD, replicate, length-replicate}
 use Rattle.endian.specs.Splice.{splice}
 use Rattle.endian.proofs.Below.{greatest-at, greatest-ge}
 use Rattle.endian.proofs.Splice.{length-splice, splice-here, splice-after, splice-first, splice-rest, getD-splice-out}
-use Rattle.layout.specs.Limits.{maxTasks}
 use Rattle.layout.specs.Areas.{meta1End, dataStart, meta2Start, meta2Length, meta2End}
 use Rattle.layout.proofs.Chunks.{meta1-before-data}
 use Rattle.layout.proofs.Power.{blocksize-facts}
 use Rattle.meta.specs.declared.head.Head.{Head}
 use Rattle.meta.specs.Meta1.{lastAt, lastFields, meta1, openingBytes}
 use Rattle.meta.specs.Meta2.{unused, meta2}
-use Rattle.meta.specs.Heads.{entry, cell, isBig, meta2At, endAt, headOf}
+use Rattle.meta.specs.Heads.{entry, cell, sizeOf, countOf, isBig, meta2At, endAt}
 use Rattle.meta.proofs.Refusals.{when-accepted}
 use Rattle.meta.proofs.Records.{head-tasks, head-block}
 use Rattle.emit.proofs.Stored.{length-last, length-opening, length-meta2}
 use Rattle.session.specs.declared.record.Session.{Session}
 use Rattle.session.specs.declared.record.Closed.{Closed}
 use Rattle.session.specs.Records.{State, marked}
-use Rattle.session.specs.Open.{Opening, tasks, openRefusal, openHead, openSession, openAnswer, openImage}
-use Rattle.session.specs.Close.{maxchunksOf, closeRefusal, finished, closedImage, closeAnswer, closeImage}
-use Rattle.session.proofs.Openings.{OpeningHolds, opening-holds, opening-data, opened-session, opened-image, opened-table}
+use Rattle.session.specs.Open.{Opening, tasks, openRefusal, openHead, openSession, openLists, openAnswer, openImage}
+use Rattle.session.specs.Close.{maxchunksOf, used, closeRefusal, finished, closedImage, closeAnswer, closeImage}
+use Rattle.session.proofs.Openings.{OpeningHolds, opening-holds, opening-data, opened-session, opened-lists, opened-image, opened-table}
 use Rattle.session.proofs.Sessions.{StateHolds, state-holds}
 use Rattle.session.proofs.Closings.{Closes, closes}
-use Rattle.container.specs.Demands.{Lists, Begun, OpeningStores, CloseStores}
+use Rattle.container.specs.Demands.{Begun, OpeningStores, CloseStores}
 use Rattle.container.proofs.Refusing.{open-number, close-number}
-use Rattle.container.proofs.Every.{lists-filled}
+use Rattle.container.proofs.Every.{lists-hold}
 
 -- ---- opening
-
--- a list of zeros, entry by entry
-lists-zeros : (n : ℕ) (xs : List ℕ) → n ≤ maxTasks → xs ≡ replicate maxTasks 0 → Lists n (λ i. 0) xs
-lists-zeros n xs few e = record {
-  entries = λ i l. rw e (getD-replicate maxTasks i 0 0 (omega arith));
-  zeros = λ i l h. rw e (getD-replicate maxTasks i 0 0 h);
-  as-many = ap length e ∙ length-replicate {A = ℕ} maxTasks 0;
-}
 
 module _ (o : Opening) (image : List ℕ) (table : List ℤ) where
   module _ (zero : openRefusal o (length image) (length table) ≡ 0) where
     facts : OpeningHolds o (length image) (length table)
     facts = opening-holds o (length image) (length table) zero
 
-    begun : Begun o (openAnswer o image table .session)
-    unfolding openSession openHead headOf
+    begun : Begun o (openAnswer o image table .session) (openAnswer o image table .lists)
+    unfolding openSession openHead openLists
     begun =
         let e = opened-session o image table zero in
         let few = facts .plan .few-tasks in
@@ -59,54 +50,52 @@ module _ (o : Opening) (image : List ℕ) (table : List ℤ) where
           patch = ap (λ (s : Session). s .head .patch) e;
           blocksize = ap (λ (s : Session). s .head .blocksize) e;
           n = ap (λ (s : Session). s .head .n) e;
-          ranks = lists-filled (tasks o) (entry (o .ranks)) _ few (ap (λ (s : Session). s .head .ranks) e);
-          sizes = lists-filled (tasks o) (entry (o .sizes)) _ few (ap (λ (s : Session). s .head .sizes) e);
-          counts = lists-zeros (tasks o) _ few (ap (λ (s : Session). s .counts) e);
           planned = ap (λ (s : Session). s .planned) e;
           unmarked = ap (λ (s : Session). s .closed) e;
+          listed = lists-hold (tasks o) (entry (o .ranks)) (entry (o .sizes)) (λ i. 0) few (opened-lists o image table zero);
         }
 
     abbrev stored : List ℕ
-    stored = openingBytes (openHead o) (o .prefix)
+    stored = openingBytes (openHead o) (entry (o .ranks)) (entry (o .sizes)) (o .prefix)
 
     abbrev fresh : List ℤ
-    fresh = replicate (tasks o * o .planned) unused
+    fresh = replicate (tasks o * o .plan .planned) unused
 
-    stored-long : length stored ≡ dataStart (o .blocksize) (tasks o)
-    unfolding openHead headOf
+    stored-long : length stored ≡ dataStart (o .plan .blocksize) (tasks o)
+    unfolding openHead
     stored-long =
-        let f = blocksize-facts (o .blocksize) (facts .plan .block) in
-        length-opening (openHead o) (o .prefix) (facts .plan .prefix-short) (meta1-before-data (o .blocksize) (tasks o) (omega arith))
+        let f = blocksize-facts (o .plan .blocksize) (facts .plan .block) in
+        length-opening (openHead o) (entry (o .ranks)) (entry (o .sizes)) (o .prefix) (facts .plan .prefix-short) (meta1-before-data (o .plan .blocksize) (tasks o) (omega arith))
 
     stored-fits : 0 + length stored ≤ length image
     stored-fits = rw (zero-add, stored-long) (opening-data o facts)
 
-    fresh-long : length fresh ≡ tasks o * o .planned
-    fresh-long = length-replicate (tasks o * o .planned) unused
+    fresh-long : length fresh ≡ tasks o * o .plan .planned
+    fresh-long = length-replicate (tasks o * o .plan .planned) unused
 
     fresh-fits : 0 + length fresh ≤ length table
     fresh-fits = rw (zero-add, fresh-long) (facts .table-long)
 
     -- what stands before D then
-    pub opened-bytes : take (dataStart (o .blocksize) (tasks o)) (openImage o image table) ≡ stored
+    pub opened-bytes : take (dataStart (o .plan .blocksize) (tasks o)) (openImage o image table) ≡ stored
     opened-bytes =
-        ap (take (dataStart (o .blocksize) (tasks o))) (opened-image o image table zero)
+        ap (take (dataStart (o .plan .blocksize) (tasks o))) (opened-image o image table zero)
         ∙ splice-first image stored _ stored-long stored-fits
 
     opened-stores : OpeningStores o image table
-    unfolding openingBytes openSession openHead headOf
+    unfolding openingBytes openSession openHead
     opened-stores =
-        let d : ℕ = dataStart (o .blocksize) (tasks o) in
+        let d : ℕ = dataStart (o .plan .blocksize) (tasks o) in
         let session = opened-session o image table zero in
         let table-is = opened-table o image table zero in
         record {
           begun = begun;
           bytes =
               opened-bytes
-              ∙ ap (λ (s : Session). meta1 (s .head) (o .prefix) 0 0 ++ replicate (d - meta1End (tasks o)) 0) (sym session);
+              ∙ ap (λ (s : Session). meta1 (s .head) (entry (o .ranks)) (entry (o .sizes)) (o .prefix) 0 0 ++ replicate (d - meta1End (tasks o)) 0) (sym session);
           other-bytes = ap (drop d) (opened-image o image table zero) ∙ splice-rest image stored d stored-long stored-fits;
-          cells = ap (take (tasks o * o .planned)) table-is ∙ splice-first table fresh _ fresh-long fresh-fits;
-          other-cells = ap (drop (tasks o * o .planned)) table-is ∙ splice-rest table fresh _ fresh-long fresh-fits;
+          cells = ap (take (tasks o * o .plan .planned)) table-is ∙ splice-first table fresh _ fresh-long fresh-fits;
+          other-cells = ap (drop (tasks o * o .plan .planned)) table-is ∙ splice-rest table fresh _ fresh-long fresh-fits;
         }
 
   pub opening-stores : openAnswer o image table .refusal ≡ 0 → OpeningStores o image table
@@ -120,7 +109,10 @@ module _ (st : State) where
     head = st .session .head
 
     abbrev m : ℕ
-    m = maxchunksOf (st .session)
+    m = used st
+
+    abbrev size : ℕ → ℕ
+    size = sizeOf (st .lists)
 
     holds : StateHolds st
     unfolding closeRefusal
@@ -129,57 +121,57 @@ module _ (st : State) where
     closing : Closes st
     closing = closes st holds
 
-    image-is : closeImage st ≡ finished head m (st .session .counts) (st .table) (st .image)
+    image-is : closeImage st ≡ finished head (st .lists) m (st .table) (st .image)
     unfolding closeImage closedImage
     image-is = when-accepted _ _ _ zero
 
-    answer-is : closeAnswer st ≡ record { refusal = 0; session = marked (st .session); length = endAt head m }
+    answer-is : closeAnswer st ≡ record { refusal = 0; session = marked (st .session); length = endAt head size m }
     unfolding closeAnswer
     answer-is = when-accepted _ _ _ zero
 
     -- META2 and the last two fields of META1, where they are put
     abbrev second : List ℕ
-    second = meta2 (isBig head) (head .n) m (entry (st .session .counts)) (cell (st .table))
+    second = meta2 (isBig head) (head .n) m (countOf (st .lists)) (cell (st .table))
 
     abbrev last : List ℕ
-    last = lastFields (isBig head) m (meta2At head m)
+    last = lastFields (isBig head) m (meta2At head size m)
 
     abbrev between : List ℕ
-    between = splice (st .image) (meta2At head m) second
+    between = splice (st .image) (meta2At head size m) second
 
     second-long : length second ≡ meta2Length (head .n) m
-    second-long = length-meta2 (isBig head) (head .n) m (entry (st .session .counts)) (cell (st .table))
+    second-long = length-meta2 (isBig head) (head .n) m (countOf (st .lists)) (cell (st .table))
 
     last-long : length last ≡ 12
-    last-long = length-last (isBig head) m (meta2At head m)
+    last-long = length-last (isBig head) m (meta2At head size m)
 
-    end-is : endAt head m ≡ meta2At head m + meta2Length (head .n) m
+    end-is : endAt head size m ≡ meta2At head size m + meta2Length (head .n) m
     unfolding endAt meta2At meta2End
     end-is = refl
 
-    apart : lastAt (head .n) + 12 ≤ meta2At head m
+    apart : lastAt (head .n) + 12 ≤ meta2At head size m
     unfolding meta2At meta2Start meta1End
     apart =
-        let f = blocksize-facts (head .blocksize) (head-block head (holds .sound .head)) in
+        let f = blocksize-facts (head .blocksize) (head-block head (st .lists) (holds .sound .head)) in
         omega (arith, meta1-before-data (head .blocksize) (head .n) (omega arith))
 
-    second-fits : meta2At head m + length second ≤ length (st .image)
+    second-fits : meta2At head size m + length second ≤ length (st .image)
     second-fits = omega (arith, second-long, end-is, closing .image-long)
 
     between-long : length between ≡ length (st .image)
-    between-long = length-splice (st .image) (meta2At head m) second second-fits
+    between-long = length-splice (st .image) (meta2At head size m) second second-fits
 
     last-fits : lastAt (head .n) + length last ≤ length between
     last-fits = omega (arith, last-long, between-long, apart, second-fits)
 
-    second-there : take (endAt head m - meta2At head m) (drop (meta2At head m) (closeImage st)) ≡ second
+    second-there : take (endAt head size m - meta2At head size m) (drop (meta2At head size m) (closeImage st)) ≡ second
     unfolding finished
     second-there =
-        let size : endAt head m - meta2At head m ≡ length second = omega (arith, second-long, end-is) in
-        rw (image-is, size)
+        let bytes : endAt head size m - meta2At head size m ≡ length second = omega (arith, second-long, end-is) in
+        rw (image-is, bytes)
         (ap (take (length second))
-        (splice-after between (lastAt (head .n)) last last-fits (meta2At head m) (omega (arith, last-long, apart)))
-        ∙ splice-here (st .image) (meta2At head m) second second-fits)
+        (splice-after between (lastAt (head .n)) last last-fits (meta2At head size m) (omega (arith, last-long, apart)))
+        ∙ splice-here (st .image) (meta2At head size m) second second-fits)
 
     last-there : take 12 (drop (lastAt (head .n)) (closeImage st)) ≡ last
     unfolding finished
@@ -187,27 +179,27 @@ module _ (st : State) where
         rw (image-is, ← last-long) (splice-here between (lastAt (head .n)) last last-fits)
 
     outside : (j : ℕ)
-        → (j < lastAt (head .n)) ⊎ (((meta1End (head .n) ≤ j) × (j < meta2At head m)) ⊎ (endAt head m ≤ j))
+        → (j < lastAt (head .n)) ⊎ (((meta1End (head .n) ≤ j) × (j < meta2At head size m)) ⊎ (endAt head size m ≤ j))
         → getD (closeImage st) j 0 ≡ getD (st .image) j 0
     unfolding finished meta1End
     outside j ways =
         rw image-is
         (getD-splice-out between (lastAt (head .n)) last last-fits j 0
         (⊎-elim inl (λ w. inr (⊎-elim (λ b. omega (arith, b .0, last-long)) (λ b. omega (arith, apart, last-long, end-is)) w)) ways)
-        ∙ getD-splice-out (st .image) (meta2At head m) second second-fits j 0
+        ∙ getD-splice-out (st .image) (meta2At head size m) second second-fits j 0
         (⊎-elim (λ b. inl (omega (arith, apart))) (λ w. ⊎-elim (λ b. inl (b .1)) (λ b. inr (omega (arith, second-long, end-is))) w) ways))
 
     close-as-long : length (closeImage st) ≡ length (st .image)
     unfolding finished
     close-as-long = rw image-is (length-splice between (lastAt (head .n)) last last-fits ∙ between-long)
 
-    counts-most : (i : ℕ) → i < head .n → entry (st .session .counts) i ≤ m
+    counts-most : (i : ℕ) → i < head .n → countOf (st .lists) i ≤ m
     unfolding maxchunksOf
-    counts-most i l = greatest-ge (entry (st .session .counts)) (head .n) i l
+    counts-most i l = greatest-ge (countOf (st .lists)) (head .n) i l
 
-    count-reached : (i : ℕ) × (i < head .n) × (entry (st .session .counts) i ≡ m)
+    count-reached : (i : ℕ) × (i < head .n) × (countOf (st .lists) i ≡ m)
     unfolding maxchunksOf
-    count-reached = greatest-at (entry (st .session .counts)) (head .n) (head-tasks head (holds .sound .head) .0)
+    count-reached = greatest-at (countOf (st .lists)) (head .n) (head-tasks head (st .lists) (holds .sound .head) .0)
 
     closed-stores : CloseStores st m
     closed-stores = record {
@@ -221,5 +213,5 @@ module _ (st : State) where
       length-is = ap (λ (a : Closed). a .length) answer-is;
     }
 
-  pub close-stores : closeAnswer st .refusal ≡ 0 → CloseStores st (maxchunksOf (st .session))
+  pub close-stores : closeAnswer st .refusal ≡ 0 → CloseStores st (used st)
   close-stores e = closed-stores (sym (close-number st) ∙ e)

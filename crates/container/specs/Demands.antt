@@ -18,12 +18,12 @@ use Rattle.layout.specs.Areas.{meta1End, dataStart, capacity, chunkStart}
 use Rattle.meta.specs.Refusals.{firstFailing}
 use Rattle.meta.specs.Meta1.{lastAt, lastFields, meta1}
 use Rattle.meta.specs.Meta2.{valueIndex, unused, meta2}
-use Rattle.meta.specs.Heads.{entry, cell, isBig, orderOf, meta2At, endAt}
+use Rattle.meta.specs.Heads.{entry, cell, sizeOf, countOf, noLists, isBig, orderOf, meta2At, endAt}
 use Rattle.session.specs.declared.record.Session.{Session}
 use Rattle.session.specs.Records.{State, sessionTests, noSession, marked}
 use Rattle.session.specs.Open.{Opening, tasks, needsAnswer, openAnswer, openImage, openTable, opened}
 use Rattle.session.specs.Write.{Request, writeRefusal, afterWrite, writes, refusals, accepted}
-use Rattle.session.specs.Close.{maxchunksOf, closeAnswer, closeImage}
+use Rattle.session.specs.Close.{used, closeAnswer, closeImage}
 use Rattle.room.specs.Tally.{planOf, blank, askOf, asks, answers, told, toldAll, held, own, ownAnswers, Lands}
 use Rattle.reading.specs.declared.record.Loaded.{Loaded}
 use Rattle.reading.specs.Records.{noLoaded}
@@ -67,7 +67,8 @@ closeNumbers = 17 ∷ 18 ∷ 19 ∷ []
 -- loading: refused, the table is as it came and the record is zeros marked closed
 pub record LoadRefuses (image : List ℕ) (table : List ℤ) : Type 0 where
   pub numbered : OneOf (0 ∷ loadNumbers) (loadAnswer image table .refusal)
-  pub nothing-moved : 0 < loadAnswer image table .refusal → (loadTable image table ≡ table) × (loadAnswer image table .loaded ≡ noLoaded)
+  pub nothing-moved : 0 < loadAnswer image table .refusal
+      → (loadTable image table ≡ table) × (loadAnswer image table .loaded ≡ noLoaded) × (loadAnswer image table .lists ≡ noLists)
 
 -- the reads: refused, the part is empty, its place, the count and the total are 0, and the output is as it came
 pub record ReadsRefuse (c : Container) (task : ℕ) : Type 0 where
@@ -86,6 +87,7 @@ pub record OpenRefuses (o : Opening) (image : List ℕ) (table : List ℤ) : Typ
   pub numbered : OneOf (0 ∷ openNumbers) (openAnswer o image table .refusal)
   pub nothing-moved : 0 < openAnswer o image table .refusal
       → (openImage o image table ≡ image) × (openTable o image table ≡ table) × (openAnswer o image table .session ≡ noSession)
+      × (openAnswer o image table .lists ≡ noLists)
 
 -- what an opening needs: refused, the lengths are 0; and it says just how the opening is answered, whatever that is lent
 pub record NeedsRefuses (o : Opening) (image : List ℕ) (table : List ℤ) : Type 0 where
@@ -103,7 +105,7 @@ pub record WriteRefuses (st : State) (q : Request) : Type 0 where
   pub nothing-moved : 0 < writeRefusal st q → afterWrite st q ≡ st
   pub empty-moves-nothing : length (q .bytes) ≡ 0 → afterWrite st q ≡ st
 
--- closing: refused, record and image are as they came and the length is 0
+-- closing: refused, the record's numbers and the image are as they came and the length is 0
 pub record CloseRefuses (st : State) : Type 0 where
   pub numbered : OneOf (0 ∷ closeNumbers) (closeAnswer st .refusal)
   pub nothing-moved : 0 < closeAnswer st .refusal
@@ -124,28 +126,30 @@ pub record Refusals : Type 0 where
 
 -- ---- demand 2 (a): the format
 
--- a list of a record has an entry for each of the most tasks: one for each of n, and 0 after them
-pub record Lists (n : ℕ) (f : ℕ → ℕ) (xs : List ℕ) : Type 0 where
-  pub entries : (i : ℕ) → i < n → entry xs i ≡ f i
-  pub zeros : (i : ℕ) → n ≤ i → i < maxTasks → entry xs i ≡ 0
-  pub as-many : length xs ≡ maxTasks
+-- the lists of a record: ranks, sizes and counts one after the other, each with an entry for every one of the most tasks, of which the first n
+-- are those of the tasks and the others 0
+pub record Lists (n : ℕ) (rank size count : ℕ → ℕ) (lists : List ℕ) : Type 0 where
+  pub ranks : (i : ℕ) → i < n → entry lists i ≡ rank i
+  pub sizes : (i : ℕ) → i < n → entry lists (maxTasks + i) ≡ size i
+  pub counts : (i : ℕ) → i < n → entry lists (2 * maxTasks + i) ≡ count i
+  pub zeros : (i : ℕ) → n ≤ i → i < maxTasks
+      → (entry lists i ≡ 0) × (entry lists (maxTasks + i) ≡ 0) × (entry lists (2 * maxTasks + i) ≡ 0)
+  pub as-many : length lists ≡ 3 * maxTasks
 
 -- a loaded record says what the container says, and its mark is unset
-pub record Recorded (c : Contents) (l : Loaded) : Type 0 where
+pub record Recorded (c : Contents) (l : Loaded) (lists : List ℕ) : Type 0 where
   pub order : l .head .order ≡ orderOf (c .big)
   pub version : l .head .version ≡ c .version
   pub patch : l .head .patch ≡ c .patch
   pub blocksize : l .head .blocksize ≡ c .blocksize
   pub n : l .head .n ≡ c .n
-  pub ranks : Lists (c .n) (c .rank) (l .head .ranks)
-  pub sizes : Lists (c .n) (c .size) (l .head .sizes)
-  pub counts : Lists (c .n) (c .count) (l .counts)
   pub maxchunks : l .maxchunks ≡ c .maxchunks
   pub unmarked : l .closed ≡ 0
+  pub listed : Lists (c .n) (c .rank) (c .size) (c .count) lists
 
 -- so do the cells of the table; those after them are as they came
-pub record Says (c : Contents) (l : Loaded) (before after : List ℤ) : Type 0 where
-  pub recorded : Recorded c l
+pub record Says (c : Contents) (l : Loaded) (lists : List ℕ) (before after : List ℤ) : Type 0 where
+  pub recorded : Recorded c l lists
   pub used-cells : (i k : ℕ) → i < c .n → k < c .count i → cell after (valueIndex (c .n) k i) ≡ pos (c .written k i)
   pub unused-cells : (i k : ℕ) → i < c .n → c .count i ≤ k → k < c .maxchunks → cell after (valueIndex (c .n) k i) ≡ unused
   pub other-cells : (j : ℕ) → c .n * c .maxchunks ≤ j → cell after j ≡ cell before j
@@ -156,7 +160,7 @@ pub record AcceptsExactly (image : List ℕ) (table : List ℤ) : Type 0 where
   pub only : loadAnswer image table .refusal ≡ 0 → (c : IsContainer image) × (c .says .n * c .says .maxchunks ≤ length table)
   pub every : (c : IsContainer image) → c .says .n * c .says .maxchunks ≤ length table → loadAnswer image table .refusal ≡ 0
   pub says : (c : IsContainer image) → loadAnswer image table .refusal ≡ 0
-      → Says (c .says) (loadAnswer image table .loaded) table (loadTable image table)
+      → Says (c .says) (loadAnswer image table .loaded) (loadAnswer image table .lists) table (loadTable image table)
 
 -- a part's place in the image: the bytes there are the part, whatever record, image and table came in
 abbrev pub PartThere : Container → ℕ → ℕ → Type 0
@@ -174,6 +178,11 @@ streamSaid image c i = joinBelow (c .count i) (bytesSaid image c i)
 
 unfoldable pub totalSaid : Contents → ℕ → ℕ
 totalSaid c i = sumBelow (c .count i) (λ k. c .written k i)
+
+-- the container that a load hands back
+abbrev pub loadedFrom : List ℕ → List ℤ → Container
+loadedFrom image table =
+    containerOf (loadAnswer image table .loaded) (loadAnswer image table .lists) image (loadTable image table)
 
 -- every used chunk, every total and every stream from every place in it; of a chunk, also that all of its bytes are there
 pub record ReadsBack (image : List ℕ) (c : Contents) (loaded : Container) : Type 0 where
@@ -196,71 +205,75 @@ pub record RefusesBack (c : Contents) (loaded : Container) : Type 0 where
 -- ---- demand 2 (b): what any accepted opening and any accepted close store, whatever came in
 
 -- the record of an opening says what the opening was given; no chunk is begun, and the mark is unset
-pub record Begun (o : Opening) (s : Session) : Type 0 where
-  pub order : s .head .order ≡ o .order
-  pub version : s .head .version ≡ o .version
-  pub patch : s .head .patch ≡ o .patch
-  pub blocksize : s .head .blocksize ≡ o .blocksize
+pub record Begun (o : Opening) (s : Session) (lists : List ℕ) : Type 0 where
+  pub order : s .head .order ≡ o .plan .order
+  pub version : s .head .version ≡ o .plan .version
+  pub patch : s .head .patch ≡ o .plan .patch
+  pub blocksize : s .head .blocksize ≡ o .plan .blocksize
   pub n : s .head .n ≡ tasks o
-  pub ranks : Lists (tasks o) (entry (o .ranks)) (s .head .ranks)
-  pub sizes : Lists (tasks o) (entry (o .sizes)) (s .head .sizes)
-  pub counts : Lists (tasks o) (λ i. 0) (s .counts)
-  pub planned : s .planned ≡ o .planned
+  pub planned : s .planned ≡ o .plan .planned
   pub unmarked : s .closed ≡ 0
+  pub listed : Lists (tasks o) (entry (o .ranks)) (entry (o .sizes)) (λ i. 0) lists
 
 -- META1 of that record with zeros up to D, -1 in the first n·K cells, and nothing else
 pub record OpeningStores (o : Opening) (image : List ℕ) (table : List ℤ) : Type 0 where
-  pub begun : Begun o (openAnswer o image table .session)
-  pub bytes : take (dataStart (o .blocksize) (tasks o)) (openImage o image table)
-      ≡ meta1 (openAnswer o image table .session .head) (o .prefix) 0 0
-      ++ replicate (dataStart (o .blocksize) (tasks o) - meta1End (tasks o)) 0
-  pub other-bytes : drop (dataStart (o .blocksize) (tasks o)) (openImage o image table) ≡ drop (dataStart (o .blocksize) (tasks o)) image
-  pub cells : take (tasks o * o .planned) (openTable o image table) ≡ replicate (tasks o * o .planned) unused
-  pub other-cells : drop (tasks o * o .planned) (openTable o image table) ≡ drop (tasks o * o .planned) table
+  pub begun : Begun o (openAnswer o image table .session) (openAnswer o image table .lists)
+  pub bytes : take (dataStart (o .plan .blocksize) (tasks o)) (openImage o image table)
+      ≡ meta1 (openAnswer o image table .session .head) (entry (o .ranks)) (entry (o .sizes)) (o .prefix) 0 0
+      ++ replicate (dataStart (o .plan .blocksize) (tasks o) - meta1End (tasks o)) 0
+  pub other-bytes : drop (dataStart (o .plan .blocksize) (tasks o)) (openImage o image table) ≡ drop (dataStart (o .plan .blocksize) (tasks o)) image
+  pub cells : take (tasks o * o .plan .planned) (openTable o image table) ≡ replicate (tasks o * o .plan .planned) unused
+  pub other-cells : drop (tasks o * o .plan .planned) (openTable o image table) ≡ drop (tasks o * o .plan .planned) table
+
+-- where META2 of so many chunks starts and ends in a session's image
+abbrev pub startsAt : State → ℕ → ℕ
+startsAt st m = meta2At (st .session .head) (sizeOf (st .lists)) m
+
+abbrev pub endOf : State → ℕ → ℕ
+endOf st m = endAt (st .session .head) (sizeOf (st .lists)) m
 
 -- META2 of the record and the table, in the record's order, and META1's last two fields, of 4 and 8 bytes; every other byte, also past the
 -- length, is as it came. m is the greatest count
 pub record CloseStores (st : State) (m : ℕ) : Type 0 where
-  pub most : (i : ℕ) → i < st .session .head .n → entry (st .session .counts) i ≤ m
-  pub reached : (i : ℕ) × (i < st .session .head .n) × (entry (st .session .counts) i ≡ m)
-  pub second : take (endAt (st .session .head) m - meta2At (st .session .head) m) (drop (meta2At (st .session .head) m) (closeImage st))
-      ≡ meta2 (isBig (st .session .head)) (st .session .head .n) m (entry (st .session .counts)) (cell (st .table))
-  pub fields : take 12 (drop (lastAt (st .session .head .n)) (closeImage st))
-      ≡ lastFields (isBig (st .session .head)) m (meta2At (st .session .head) m)
+  pub most : (i : ℕ) → i < st .session .head .n → countOf (st .lists) i ≤ m
+  pub reached : (i : ℕ) × (i < st .session .head .n) × (countOf (st .lists) i ≡ m)
+  pub second : take (endOf st m - startsAt st m) (drop (startsAt st m) (closeImage st))
+      ≡ meta2 (isBig (st .session .head)) (st .session .head .n) m (countOf (st .lists)) (cell (st .table))
+  pub fields : take 12 (drop (lastAt (st .session .head .n)) (closeImage st)) ≡ lastFields (isBig (st .session .head)) m (startsAt st m)
   pub others : (j : ℕ)
       → (j < lastAt (st .session .head .n))
-      ⊎ (((meta1End (st .session .head .n) ≤ j) × (j < meta2At (st .session .head) m)) ⊎ (endAt (st .session .head) m ≤ j))
+      ⊎ (((meta1End (st .session .head .n) ≤ j) × (j < startsAt st m)) ⊎ (endOf st m ≤ j))
       → getD (closeImage st) j 0 ≡ getD (st .image) j 0
   pub as-long : length (closeImage st) ≡ length (st .image)
   pub session : closeAnswer st .session ≡ marked (st .session)
-  pub length-is : closeAnswer st .length ≡ endAt (st .session .head) m
+  pub length-is : closeAnswer st .length ≡ endOf st m
 
 -- ---- demand 2 (c): what a session accepted is read back
 
 -- the two version numbers are ones that 32 bits hold, as the entry's parameters do; every other number of an opening is tested
 abbrev pub VersionsFit : Opening → Type 0
-VersionsFit o = (mag (o .version) < 2 ^ 31) × (mag (o .patch) < 2 ^ 31)
+VersionsFit o = (mag (o .plan .version) < 2 ^ 31) × (mag (o .plan .patch) < 2 ^ 31)
 
 -- what the container of a session says: what the opening was given, the counts and the cells; maxchunks is the greatest count
 abbrev pub contentsOf : Opening → State → Contents
 contentsOf o st =
     record {
-      big = eqb (o .order) 1;
-      version = o .version;
-      patch = o .patch;
-      blocksize = o .blocksize;
+      big = eqb (o .plan .order) 1;
+      version = o .plan .version;
+      patch = o .plan .patch;
+      blocksize = o .plan .blocksize;
       n = tasks o;
       rank = entry (o .ranks);
       size = entry (o .sizes);
-      maxchunks = maxchunksOf (st .session);
-      count = entry (st .session .counts);
+      maxchunks = used st;
+      count = countOf (st .lists);
       written = λ k i. natural (cell (st .table) (valueIndex (tasks o) k i));
     }
 
 -- a container loaded: its parts, totals and streams, for each task the given bytes
 pub record GivesBack (c : Container) (n : ℕ) (bytes : ℕ → List ℕ) : Type 0 where
-  pub allowed : (i k : ℕ) → i < n → k < entry (c .loaded .counts) i → chunkRefusal c (i + 1) (k + 1) ≡ 0
-  pub parts : (i : ℕ) → i < n → joinBelow (entry (c .loaded .counts) i) (λ k. chunkPart c (i + 1) (k + 1)) ≡ bytes i
+  pub allowed : (i k : ℕ) → i < n → k < countOf (c .lists) i → chunkRefusal c (i + 1) (k + 1) ≡ 0
+  pub parts : (i : ℕ) → i < n → joinBelow (countOf (c .lists) i) (λ k. chunkPart c (i + 1) (k + 1)) ≡ bytes i
   pub totals : (i : ℕ) → i < n → totalAnswer c (i + 1) ≡ record { refusal = 0; bytes = length (bytes i) }
   pub copied : (i p : ℕ) → (out : List ℕ) → i < n → p ≤ length (bytes i)
       → readAnswer c (i + 1) p out ≡ record { refusal = 0; bytes = min (length out) (length (bytes i) - p) }
@@ -271,12 +284,12 @@ pub record GivesBack (c : Container) (n : ℕ) (bytes : ℕ → List ℕ) : Type
 -- same fields; each task gives back the bytes accepted from it, in order
 pub record LoadsAgain (o : Opening) (st : State) (bytes : ℕ → List ℕ) (image : List ℕ) (table : List ℤ) : Type 0 where
   pub accepts : loadAnswer image table .refusal ≡ 0
-  pub recorded : Recorded (contentsOf o st) (loadAnswer image table .loaded)
-  pub gives-back : GivesBack (containerOf (loadAnswer image table .loaded) image (loadTable image table)) (tasks o) bytes
+  pub recorded : Recorded (contentsOf o st) (loadAnswer image table .loaded) (loadAnswer image table .lists)
+  pub gives-back : GivesBack (loadedFrom image table) (tasks o) bytes
 
 pub record WrittenBack (o : Opening) (image : List ℕ) (table : List ℤ) (qs : List Request) : Type 0 where
   pub closes : closeAnswer (writes (opened o image table) qs) .refusal ≡ 0
-  pub loads : (tail : List ℕ) → (cells : List ℤ) → tasks o * maxchunksOf (writes (opened o image table) qs .session) ≤ length cells
+  pub loads : (tail : List ℕ) → (cells : List ℤ) → tasks o * used (writes (opened o image table) qs) ≤ length cells
       → LoadsAgain o (writes (opened o image table) qs)
       (λ i. accepted (i + 1) qs (refusals (opened o image table) qs))
       (take (closeAnswer (writes (opened o image table) qs) .length) (closeImage (writes (opened o image table) qs)) ++ tail)
@@ -286,12 +299,12 @@ pub record Format : Type 0 where
   pub accepts-exactly : (image : List ℕ) → (table : List ℤ) → AcceptsExactly image table
   pub part-there : (c : Container) → (task chunk : ℕ) → PartThere c task chunk
   pub reads-back : (image : List ℕ) → (table : List ℤ) → (c : IsContainer image) → loadAnswer image table .refusal ≡ 0
-      → ReadsBack image (c .says) (containerOf (loadAnswer image table .loaded) image (loadTable image table))
+      → ReadsBack image (c .says) (loadedFrom image table)
   pub refuses-back : (image : List ℕ) → (table : List ℤ) → (c : IsContainer image) → loadAnswer image table .refusal ≡ 0
-      → RefusesBack (c .says) (containerOf (loadAnswer image table .loaded) image (loadTable image table))
+      → RefusesBack (c .says) (loadedFrom image table)
   pub opening-stores : (o : Opening) → (image : List ℕ) → (table : List ℤ) → openAnswer o image table .refusal ≡ 0
       → OpeningStores o image table
-  pub close-stores : (st : State) → closeAnswer st .refusal ≡ 0 → CloseStores st (maxchunksOf (st .session))
+  pub close-stores : (st : State) → closeAnswer st .refusal ≡ 0 → CloseStores st (used st)
   pub written-back : (o : Opening) → (image : List ℕ) → (table : List ℤ) → (qs : List Request) → openAnswer o image table .refusal ≡ 0
       → VersionsFit o → WrittenBack o image table qs
 
@@ -303,9 +316,9 @@ pub record Answers (o : Opening) (start : State) (qs : List Request) : Type 0 wh
   pub as-tally : refusals start qs ≡ answers (planOf o) blank (asks qs)
   pub alone : (task : ℕ) → ownAnswers task (asks qs) (refusals start qs) ≡ answers (planOf o) blank (own task (asks qs))
   pub least-share : (q : Request) → writeRefusal (writes start qs) q ≡ 16
-      → o .planned * capacity (o .blocksize) (entry (o .sizes) (q .task - 1))
+      → o .plan .planned * capacity (o .plan .blocksize) (entry (o .sizes) (q .task - 1))
       < 2 * (held (q .task) (asks qs) (refusals start qs) + length (q .bytes))
-  pub most : (task : ℕ) → held task (asks qs) (refusals start qs) ≤ o .planned * capacity (o .blocksize) (entry (o .sizes) (task - 1))
+  pub most : (task : ℕ) → held task (asks qs) (refusals start qs) ≤ o .plan .planned * capacity (o .plan .blocksize) (entry (o .sizes) (task - 1))
 
 -- the bytes: each accepted one where the tally puts it, every other as the opening left it, and no block with bytes of two tasks
 pub record Placed (o : Opening) (start : State) (qs : List Request) : Type 0 where
@@ -314,24 +327,24 @@ pub record Placed (o : Opening) (start : State) (qs : List Request) : Type 0 whe
       → getD (writes start qs .image) at 0 ≡ getD (start .image) at 0
   pub as-long : length (writes start qs .image) ≡ length (start .image)
   pub own-blocks : {task task′ at at′ value value′ : ℕ} → Lands (planOf o) task at value blank qs → Lands (planOf o) task′ at′ value′ blank qs
-      → at / o .blocksize ≡ at′ / o .blocksize → task ≡ task′
+      → at / o .plan .blocksize ≡ at′ / o .plan .blocksize → task ≡ task′
 
--- the record and the table: a task's count is the tally's u and its last cell the tally's w, later cells are -1; head, K, mark, the counts past
--- n and the cells past n·K are as the opening left them; and the next write moves no cell but the one that is then its task's last
+-- the record and the table: a task's count is the tally's u and its last cell the tally's w, later cells are -1; the numbers, all of the lists
+-- but the tasks' counts, and the cells past n·K are as the opening left them; and the next write moves no cell but the one that is then its
+-- task's last
 pub record Kept (o : Opening) (start : State) (qs : List Request) : Type 0 where
-  pub head : writes start qs .session .head ≡ start .session .head
-  pub planned : writes start qs .session .planned ≡ start .session .planned
-  pub closed : writes start qs .session .closed ≡ start .session .closed
-  pub counts : (i : ℕ) → i < tasks o → entry (writes start qs .session .counts) i ≡ toldAll (planOf o) blank (asks qs) (i + 1) .u
-  pub other-counts : (i : ℕ) → tasks o ≤ i → entry (writes start qs .session .counts) i ≡ entry (start .session .counts) i
+  pub session : writes start qs .session ≡ start .session
+  pub counts : (i : ℕ) → i < tasks o → countOf (writes start qs .lists) i ≡ toldAll (planOf o) blank (asks qs) (i + 1) .u
+  pub other-entries : (j : ℕ) → (j < 2 * maxTasks) ⊎ (2 * maxTasks + tasks o ≤ j) → entry (writes start qs .lists) j ≡ entry (start .lists) j
+  pub lists-as-long : length (writes start qs .lists) ≡ length (start .lists)
   pub last-cells : (i k : ℕ) → i < tasks o → k + 1 ≡ toldAll (planOf o) blank (asks qs) (i + 1) .u
       → cell (writes start qs .table) (valueIndex (tasks o) k i) ≡ pos (toldAll (planOf o) blank (asks qs) (i + 1) .w)
-  pub later-cells : (i k : ℕ) → i < tasks o → toldAll (planOf o) blank (asks qs) (i + 1) .u ≤ k → k < o .planned
+  pub later-cells : (i k : ℕ) → i < tasks o → toldAll (planOf o) blank (asks qs) (i + 1) .u ≤ k → k < o .plan .planned
       → cell (writes start qs .table) (valueIndex (tasks o) k i) ≡ unused
   pub next-cells : (q : Request) → (i k : ℕ) → i < tasks o
       → (q .task ≡ i + 1 → k + 1 ≡ told (planOf o) (toldAll (planOf o) blank (asks qs)) (askOf q) (i + 1) .u → ⊥)
       → cell (afterWrite (writes start qs) q .table) (valueIndex (tasks o) k i) ≡ cell (writes start qs .table) (valueIndex (tasks o) k i)
-  pub other-cells : (j : ℕ) → tasks o * o .planned ≤ j → cell (writes start qs .table) j ≡ cell (start .table) j
+  pub other-cells : (j : ℕ) → tasks o * o .plan .planned ≤ j → cell (writes start qs .table) j ≡ cell (start .table) j
   pub as-many : length (writes start qs .table) ≡ length (start .table)
 
 -- openings that are alike differ in image and table at most: the same requests of a task, in the same order, get the same answers

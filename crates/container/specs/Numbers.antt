@@ -11,7 +11,7 @@ use Rattle.endian.specs.Signed.{signedAt}
 use Rattle.layout.specs.Areas.{meta1End, dataStart, extended, globalskip, chunkStart, imageNeeded}
 use Rattle.endian.specs.Splice.{splice}
 use Rattle.meta.specs.Meta1.{formatField, maxchunksField, startField, meta1}
-use Rattle.meta.specs.Heads.{entry, filled, orderOf, headOf}
+use Rattle.meta.specs.Heads.{entry, listsOf, orderOf, headOf}
 use Rattle.session.specs.Records.{State}
 use Rattle.session.specs.Open.{Opening, needsAnswer, openRefusal, opened}
 use Rattle.session.specs.Write.{Request, target, writes, refusals}
@@ -39,14 +39,10 @@ Agrees (r ∷ rows) = (r .computed ≡ r .stated) × Agrees rows
 abbrev pub plan : ℕ → ℕ → List ℕ → ℕ → Opening
 plan order blocksize sizes planned =
     record {
-      order = order;
-      version = pos 1;
-      patch = pos 7;
-      blocksize = blocksize;
+      plan = record { order = order; version = pos 1; patch = pos 7; blocksize = blocksize; planned = planned };
       ranks = listBelow (length sizes) (λ i. i);
       sizes = sizes;
       prefix = [];
-      planned = planned;
     }
 
 abbrev pub openedZeros : Opening → ℕ → ℕ → State
@@ -178,18 +174,7 @@ withSize c = openRefusal (plan 0 512 (c ∷ []) 1) (2 * 1_073_741_824) 1
 abbrev pub withRanks : List ℕ → ℕ
 withRanks ranks =
     let o = plan 0 512 (500 ∷ 500 ∷ []) 1 in
-    openRefusal
-    (record {
-      order = o .order;
-      version = o .version;
-      patch = o .patch;
-      blocksize = o .blocksize;
-      ranks = ranks;
-      sizes = o .sizes;
-      prefix = o .prefix;
-      planned = o .planned;
-    })
-    65_536 2
+    openRefusal (record { plan = o .plan; ranks = ranks; sizes = o .sizes; prefix = o .prefix }) 65_536 2
 
 -- a container's image, and what loading it hands back
 abbrev pub twoImage : ℕ → ℕ → List ℕ
@@ -197,11 +182,8 @@ twoImage order bytes = take bytes (closeImage (twoDone order))
 
 abbrev pub loadedFrom : List ℕ → Container
 loadedFrom image =
-    record {
-      loaded = loadAnswer image (replicate 4 (pos 0)) .loaded;
-      image = image;
-      table = loadTable image (replicate 4 (pos 0));
-    }
+    let table = replicate 4 (pos 0) in
+    containerOf (loadAnswer image table .loaded) (loadAnswer image table .lists) image (loadTable image table)
 
 -- the program's line: the refusal number, n, maxchunks and each task's total; then library version, patch level and
 -- fileformat_version
@@ -232,7 +214,7 @@ reads c =
 -- ---- the numbers of loading: a container of one task that wrote nothing, whole, cut short, and with one byte changed
 abbrev pub smallest : List ℕ
 smallest =
-    meta1 (headOf 0 (pos 1) (pos 7) 512 1 (λ i. 0) (λ i. 1)) [] 0 1536 ++ (replicate 432 0 ++ replicate 8 0)
+    meta1 (headOf 0 (pos 1) (pos 7) 512 1) (λ i. 0) (λ i. 1) [] 0 1536 ++ (replicate 432 0 ++ replicate 8 0)
 
 abbrev pub cutTo : ℕ → ℕ
 cutTo bytes = loadRefusal (take bytes smallest) 0
@@ -245,7 +227,8 @@ abbrev pub chunkOf : ℕ → ℕ → List ℤ → ℕ → ℕ
 chunkOf closed bytes table task =
     chunkRefusal
     (containerOf
-    (loadedOf (headOf 0 (pos 1) (pos 7) 512 1 (λ i. 0) (λ i. 10)) (filled 1 (λ i. 1)) 1 closed)
+    (loadedOf (headOf 0 (pos 1) (pos 7) 512 1) 1 closed)
+    (listsOf 1 (λ i. 0) (λ i. 10) (λ i. 1))
     (replicate bytes 0)
     table)
     task 1

@@ -1,6 +1,6 @@
 -- The parts of META1 that are stored together: how long each is, and that stored one after the other they are what opening stores.
 -- Assumes nothing.
-use mathlib.Core.Path.{_≡_, refl, ap, sym, _∙_}
+use mathlib.Core.Path.{_≡_, refl, ap, ap₂, sym, _∙_}
 use mathlib.Core.Bool.{Bool, true, false}
 use mathlib.Core.List.{List, [], _∷_, _++_, flatten, append-assoc, append-nil}
 use Prim.Native.Nat.{ℕ, _+_, _-_, _*_, _≤_}
@@ -21,7 +21,7 @@ use Rattle.layout.specs.Areas.{meta1End, dataStart}
 use Rattle.layout.proofs.Chunks.{meta1-before-data}
 use Rattle.layout.proofs.Power.{blocksize-facts}
 use Rattle.meta.specs.declared.head.Head.{Head}
-use Rattle.meta.specs.Heads.{entry, isBig}
+use Rattle.meta.specs.Heads.{isBig}
 use Rattle.meta.specs.Meta1.{prefixLength, fixedLength, lastAt, padded, lastFields, meta1Front, meta1, openingBytes}
 use Rattle.emit.specs.Parts.{versions, shape}
 
@@ -76,43 +76,44 @@ regroup : (a b c d e f g k l m n z o p q : List ℕ) → m ++ n ≡ z
 unfolding flatten
 regroup a b c d e f g k l m n z o p q flags = rw (← flags) (simp (append-assoc, append-nil))
 
-module _ (h : Head) (prefix : List ℕ) where
+module _ (h : Head) (rank size : ℕ → ℕ) (prefix : List ℕ) where
   -- the fields before the prefix in two groups, the prefix and both lists
   front-parts :
       (((versions (isBig h) (h .version) (h .patch) ++ shape (isBig h) (h .blocksize) (h .n)) ++ padded prefix)
-      ++ joinBelow (h .n) (λ i. signedDigits (isBig h) 8 (pos (entry (h .ranks) i))))
-      ++ joinBelow (h .n) (λ i. signedDigits (isBig h) 8 (pos (entry (h .sizes) i)))
-      ≡ meta1Front h prefix
+      ++ joinBelow (h .n) (λ i. signedDigits (isBig h) 8 (pos (rank i))))
+      ++ joinBelow (h .n) (λ i. signedDigits (isBig h) 8 (pos (size i)))
+      ≡ meta1Front h rank size prefix
   unfolding versions shape meta1Front
   front-parts = regroup _ _ _ _ _ _ _ _ _ _ _ _ _ _ _ (flags-zero (isBig h))
 
   -- and then zeros from one store: the last two fields and all up to D
   opening-parts : lastAt (h .n) + 12 ≤ dataStart (h .blocksize) (h .n)
       → ((((versions (isBig h) (h .version) (h .patch) ++ shape (isBig h) (h .blocksize) (h .n)) ++ padded prefix)
-      ++ joinBelow (h .n) (λ i. signedDigits (isBig h) 8 (pos (entry (h .ranks) i))))
-      ++ joinBelow (h .n) (λ i. signedDigits (isBig h) 8 (pos (entry (h .sizes) i))))
+      ++ joinBelow (h .n) (λ i. signedDigits (isBig h) 8 (pos (rank i))))
+      ++ joinBelow (h .n) (λ i. signedDigits (isBig h) 8 (pos (size i))))
       ++ replicate (dataStart (h .blocksize) (h .n) - lastAt (h .n)) 0
-      ≡ openingBytes h prefix
+      ≡ openingBytes h rank size prefix
   unfolding openingBytes meta1 meta1End
   opening-parts fits =
       let k : ℕ = dataStart (h .blocksize) (h .n) - meta1End (h .n) in
       let split : dataStart (h .blocksize) (h .n) - lastAt (h .n) ≡ 12 + k = omega arith in
-      rw (front-parts, split, zeros-parts (isBig h)) (sym (append-assoc (meta1Front h prefix) (lastFields (isBig h) 0 0) (replicate k 0)))
+      rw (front-parts, split, zeros-parts (isBig h)) (sym (append-assoc (meta1Front h rank size prefix) (lastFields (isBig h) 0 0) (replicate k 0)))
 
   -- four stores, each where the last ended, leave it at the start
   pub opening-stored : (xs : List ℕ) {ys₁ ys₂ ys₃ ys₄ : List ℕ} {end : ℕ} → length prefix ≤ prefixLength → blocksizeRule (pos (h .blocksize)) ≡ true
       → dataStart (h .blocksize) (h .n) ≤ length xs → end ≡ dataStart (h .blocksize) (h .n)
       → ys₁ ≡ splice xs 0 ((versions (isBig h) (h .version) (h .patch) ++ shape (isBig h) (h .blocksize) (h .n)) ++ padded prefix)
-      → ys₂ ≡ splice ys₁ fixedLength (joinBelow (h .n) (λ i. signedDigits (isBig h) 8 (pos (entry (h .ranks) i))))
-      → ys₃ ≡ splice ys₂ (fixedLength + 8 * h .n) (joinBelow (h .n) (λ i. signedDigits (isBig h) 8 (pos (entry (h .sizes) i))))
-      → ys₄ ≡ splice ys₃ (fixedLength + 8 * h .n + 8 * h .n) (replicate (end - (fixedLength + 8 * h .n + 8 * h .n)) 0)
-      → ys₄ ≡ splice xs 0 (openingBytes h prefix)
+      → ys₂ ≡ splice ys₁ fixedLength (joinBelow (h .n) (λ i. signedDigits (isBig h) 8 (pos (rank i))))
+      → ys₃ ≡ splice ys₂ (fixedLength + 8 * h .n) (joinBelow (h .n) (λ i. signedDigits (isBig h) 8 (pos (size i))))
+      → ys₄ ≡ splice ys₃ (lastAt (h .n)) (replicate (end - lastAt (h .n)) 0)
+      → ys₄ ≡ splice xs 0 (openingBytes h rank size prefix)
   opening-stored xs {ys₃ = ys₃} {end = end} short block room e s₁ s₂ s₃ s₄ =
       let fits = opening-fits (h .blocksize) (h .n) block in
       let gap : ℕ = dataStart (h .blocksize) (h .n) - lastAt (h .n) in
       let fixed = put-first xs 0 _ fixedLength (length-fixed h (isBig h) prefix short) s₁ in
-      let ranks = put-then xs 0 _ _ (8 * h .n) fixed (length-numbers (isBig h) 8 (h .n) (λ i. pos (entry (h .ranks) i))) s₂ (omega arith) in
-      let sizes = put-then xs 0 _ _ (8 * h .n) ranks (length-numbers (isBig h) 8 (h .n) (λ i. pos (entry (h .sizes) i))) s₃ (omega arith) in
-      let rest : end - (fixedLength + 8 * h .n + 8 * h .n) ≡ gap = omega arith in
-      let zeros = s₄ ∙ ap (λ (k : ℕ). splice ys₃ (fixedLength + 8 * h .n + 8 * h .n) (replicate k 0)) rest in
+      let ranks = put-then xs 0 _ _ (8 * h .n) fixed (length-numbers (isBig h) 8 (h .n) (λ i. pos (rank i))) s₂ (omega arith) in
+      let sizes = put-then xs 0 _ _ (8 * h .n) ranks (length-numbers (isBig h) 8 (h .n) (λ i. pos (size i))) s₃ (omega arith) in
+      let rest : end - lastAt (h .n) ≡ gap = omega arith in
+      let place : lastAt (h .n) ≡ fixedLength + 8 * h .n + 8 * h .n = omega arith in
+      let zeros = s₄ ∙ ap₂ (λ (at k : ℕ). splice ys₃ at (replicate k 0)) place rest in
       put-then xs 0 _ (replicate gap 0) gap sizes (length-replicate gap 0) zeros (omega arith) .0 ∙ ap (splice xs 0) (opening-parts fits)

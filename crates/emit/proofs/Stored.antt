@@ -17,7 +17,7 @@ use Rattle.endian.proofs.Pieces.{total, Widths, none, more, length-pieces, drop
 use Rattle.endian.proofs.Signed.{length-numbers, signed-there, signed-listed}
 use Rattle.layout.specs.Areas.{meta1End, dataStart, meta2Length}
 use Rattle.meta.specs.declared.head.Head.{Head}
-use Rattle.meta.specs.Heads.{entry, isBig}
+use Rattle.meta.specs.Heads.{isBig}
 use Rattle.meta.specs.Meta1
 use Rattle.meta.specs.Meta2
 use Rattle.meta.proofs.Rows.{meta2-parts}
@@ -30,49 +30,49 @@ abbrev widths : ℕ → List ℕ
 widths n = 4 ∷ 4 ∷ 4 ∷ 4 ∷ 4 ∷ 4 ∷ 4 ∷ 4 ∷ 4 ∷ 8 ∷ 8 ∷ Meta1.prefixLength ∷ 8 * n ∷ 8 * n ∷ []
 
 -- in front of pieces of known lengths
-front-widths : (h : Head) (prefix : List ℕ) {ps : List (List ℕ)} {ws : List ℕ} → length prefix ≤ Meta1.prefixLength
-    → Widths ps ws → Widths (Meta1.frontFields h prefix ++ ps) (widths (h .n) ++ ws)
-front-widths h prefix short rest =
+front-widths : (h : Head) (rank size : ℕ → ℕ) (prefix : List ℕ) {ps : List (List ℕ)} {ws : List ℕ} → length prefix ≤ Meta1.prefixLength
+    → Widths ps ws → Widths (Meta1.frontFields h rank size prefix ++ ps) (widths (h .n) ++ ws)
+front-widths h rank size prefix short rest =
     let four = length-digits (isBig h) 4 in
     let eight = length-digits (isBig h) 8 in
     let numbers = length-numbers (isBig h) 8 (h .n) in
     more refl
     (more (four _) (more (four _) (more (four _) (more (four _) (more (four _) (more (four _) (more (four _) (more (four _)
     (more (eight _) (more (eight _)
-    (more (length-padded prefix short) (more (numbers (λ i. pos (entry (h .ranks) i))) (more (numbers (λ i. pos (entry (h .sizes) i))) rest)))))))))))))
+    (more (length-padded prefix short) (more (numbers (λ i. pos (rank i))) (more (numbers (λ i. pos (size i))) rest)))))))))))))
 
-length-front : (h : Head) (prefix : List ℕ) → length prefix ≤ Meta1.prefixLength → length (Meta1.meta1Front h prefix) ≡ Meta1.lastAt (h .n)
+length-front : (h : Head) (rank size : ℕ → ℕ) (prefix : List ℕ) → length prefix ≤ Meta1.prefixLength → length (Meta1.meta1Front h rank size prefix) ≡ Meta1.lastAt (h .n)
 unfolding Meta1.meta1Front
-length-front h prefix short = length-pieces (front-widths h prefix short none) ∙ omega arith
+length-front h rank size prefix short = length-pieces (front-widths h rank size prefix short none) ∙ omega arith
 
 pub length-last : (big : Bool) (maxchunks start : ℕ) → length (Meta1.lastFields big maxchunks start) ≡ 12
 unfolding Meta1.lastFields
 length-last big maxchunks start = simp (length-append, length-digits)
 
-length-meta1 : (h : Head) (prefix : List ℕ) (maxchunks start : ℕ) → length prefix ≤ Meta1.prefixLength
-    → length (Meta1.meta1 h prefix maxchunks start) ≡ meta1End (h .n)
+length-meta1 : (h : Head) (rank size : ℕ → ℕ) (prefix : List ℕ) (maxchunks start : ℕ) → length prefix ≤ Meta1.prefixLength
+    → length (Meta1.meta1 h rank size prefix maxchunks start) ≡ meta1End (h .n)
 unfolding Meta1.meta1 meta1End
-length-meta1 h prefix maxchunks start short =
-    simp (length-append, length-last) (omega (arith, length-front h prefix short))
+length-meta1 h rank size prefix maxchunks start short =
+    simp (length-append, length-last) (omega (arith, length-front h rank size prefix short))
 
 -- what opening stores reaches to D
-pub length-opening : (h : Head) (prefix : List ℕ) → length prefix ≤ Meta1.prefixLength
-    → meta1End (h .n) ≤ dataStart (h .blocksize) (h .n) → length (Meta1.openingBytes h prefix) ≡ dataStart (h .blocksize) (h .n)
+pub length-opening : (h : Head) (rank size : ℕ → ℕ) (prefix : List ℕ) → length prefix ≤ Meta1.prefixLength
+    → meta1End (h .n) ≤ dataStart (h .blocksize) (h .n) → length (Meta1.openingBytes h rank size prefix) ≡ dataStart (h .blocksize) (h .n)
 unfolding Meta1.openingBytes
-length-opening h prefix short fits =
-    simp (length-append, length-replicate) (omega (arith, length-meta1 h prefix 0 0 short))
+length-opening h rank size prefix short fits =
+    simp (length-append, length-replicate) (omega (arith, length-meta1 h rank size prefix 0 0 short))
 
 -- its front is META1's
-pub opening-front : (h : Head) (prefix : List ℕ) → length prefix ≤ Meta1.prefixLength
-    → take (Meta1.lastAt (h .n)) (Meta1.openingBytes h prefix) ≡ Meta1.meta1Front h prefix
+pub opening-front : (h : Head) (rank size : ℕ → ℕ) (prefix : List ℕ) → length prefix ≤ Meta1.prefixLength
+    → take (Meta1.lastAt (h .n)) (Meta1.openingBytes h rank size prefix) ≡ Meta1.meta1Front h rank size prefix
 unfolding Meta1.openingBytes Meta1.meta1
-opening-front h prefix short =
-    rw append-assoc (take-at (Meta1.meta1Front h prefix) _ (Meta1.lastAt (h .n)) (length-front h prefix short))
+opening-front h rank size prefix short =
+    rw append-assoc (take-at (Meta1.meta1Front h rank size prefix) _ (Meta1.lastAt (h .n)) (length-front h rank size prefix short))
 
 -- META1 and what follows it, in pieces
-abbrev pieces : Head → List ℕ → ℕ → ℕ → List ℕ → List (List ℕ)
-pieces h prefix maxchunks start after =
-    Meta1.frontFields h prefix ++ (signedDigits (isBig h) 4 (pos maxchunks) ∷ signedDigits (isBig h) 8 (pos start) ∷ after ∷ [])
+abbrev pieces : Head → (ℕ → ℕ) → (ℕ → ℕ) → List ℕ → ℕ → ℕ → List ℕ → List (List ℕ)
+pieces h rank size prefix maxchunks start after =
+    Meta1.frontFields h rank size prefix ++ (signedDigits (isBig h) 4 (pos maxchunks) ∷ signedDigits (isBig h) 8 (pos start) ∷ after ∷ [])
 
 regroup : (ps : List (List ℕ)) (m s r : List ℕ) → (flatten ps ++ (m ++ s)) ++ r ≡ flatten (ps ++ (m ∷ s ∷ r ∷ []))
 unfolding flatten
@@ -80,20 +80,20 @@ regroup ps m s r =
     let e : (flatten ps ++ (m ++ s)) ++ r ≡ flatten ps ++ flatten (m ∷ s ∷ r ∷ []) = simp (append-assoc, append-nil) in
     e ∙ append-pieces ps (m ∷ s ∷ r ∷ [])
 
-module _ (h : Head) (prefix : List ℕ) (maxchunks start : ℕ) (image : List ℕ)
+module _ (h : Head) (rank size : ℕ → ℕ) (prefix : List ℕ) (maxchunks start : ℕ) (image : List ℕ)
     (short : length prefix ≤ Meta1.prefixLength)
-    (stored : take (meta1End (h .n)) image ≡ Meta1.meta1 h prefix maxchunks start) where
+    (stored : take (meta1End (h .n)) image ≡ Meta1.meta1 h rank size prefix maxchunks start) where
   abbrev after : List ℕ
   after = drop (meta1End (h .n)) image
 
   abbrev all : List (List ℕ)
-  all = pieces h prefix maxchunks start after
+  all = pieces h rank size prefix maxchunks start after
 
   whole : image ≡ flatten all
   unfolding Meta1.meta1 Meta1.meta1Front Meta1.lastFields
   whole =
       sym (take-append-drop (meta1End (h .n)) image) ∙ ap (λ (l : List ℕ). l ++ after) stored
-      ∙ regroup (Meta1.frontFields h prefix) (signedDigits (isBig h) 4 (pos maxchunks)) (signedDigits (isBig h) 8 (pos start)) after
+      ∙ regroup (Meta1.frontFields h rank size prefix) (signedDigits (isBig h) 4 (pos maxchunks)) (signedDigits (isBig h) 8 (pos start)) after
 
   -- where the first k pieces end
   abbrev end : ℕ → ℕ
@@ -102,7 +102,7 @@ module _ (h : Head) (prefix : List ℕ) (maxchunks start : ℕ) (image : List �
   from : (k at : ℕ) → end k ≡ at → drop at image ≡ flatten (drop k all)
   from k at e =
       let last = more (length-digits (isBig h) 4 _) (more (length-digits (isBig h) 8 _) (more refl none)) in
-      ap (drop at) whole ∙ ap (λ (b : ℕ). drop b (flatten all)) (sym e) ∙ drop-pieces (front-widths h prefix short last) k
+      ap (drop at) whole ∙ ap (λ (b : ℕ). drop b (flatten all)) (sym e) ∙ drop-pieces (front-widths h rank size prefix short last) k
 
   -- a field that is piece k
   field : (k at w : ℕ) (z : ℤ) (others : List (List ℕ)) → end k ≡ at → drop k all ≡ signedDigits (isBig h) w z ∷ others
@@ -146,11 +146,11 @@ module _ (h : Head) (prefix : List ℕ) (maxchunks start : ℕ) (image : List �
   pub file-number-back : Meta1.fileNumberField (isBig h) image ≡ pos Meta1.fileNumber
   file-number-back = field 8 32 4 (pos Meta1.fileNumber) _ refl refl (lit< tt) (lit< tt)
 
-  pub rank-back : (i : ℕ) → i < h .n → entry (h .ranks) i < 2 ^ 63 → Meta1.rankField (isBig h) image i ≡ pos (entry (h .ranks) i)
-  rank-back = listed 12 Meta1.fixedLength (entry (h .ranks)) _ refl refl
+  pub rank-back : (i : ℕ) → i < h .n → rank i < 2 ^ 63 → Meta1.rankField (isBig h) image i ≡ pos (rank i)
+  rank-back = listed 12 Meta1.fixedLength rank _ refl refl
 
-  pub size-back : (i : ℕ) → i < h .n → entry (h .sizes) i < 2 ^ 63 → Meta1.sizeField (isBig h) image (h .n) i ≡ pos (entry (h .sizes) i)
-  size-back = listed 13 (Meta1.fixedLength + 8 * h .n) (entry (h .sizes)) _ (omega arith) refl
+  pub size-back : (i : ℕ) → i < h .n → size i < 2 ^ 63 → Meta1.sizeField (isBig h) image (h .n) i ≡ pos (size i)
+  size-back = listed 13 (Meta1.fixedLength + 8 * h .n) size _ (omega arith) refl
 
   pub maxchunks-back : maxchunks < 2 ^ 31 → Meta1.maxchunksField (isBig h) image (h .n) ≡ pos maxchunks
   maxchunks-back l = field 14 (Meta1.lastAt (h .n)) 4 (pos maxchunks) _ (omega arith) refl (lit< tt) l

@@ -13,13 +13,14 @@ ghost use Rattle.endian.specs.Splice.{splice};
 ghost use Rattle.layout.specs.Limits.{blocksizeRule, maxTasks, maxBlocks};
 ghost use Rattle.layout.specs.Areas.{meta1End, dataStart, meta2Length};
 ghost use Rattle.meta.specs.declared.head.Head.{Head};
-ghost use Rattle.meta.specs.Heads.{entry, cell};
+ghost use Rattle.meta.specs.Heads.{entry, cell, allLists, rankOf, sizeOf};
 ghost use Rattle.meta.specs.Meta1.{prefixLength, fixedLength, lastAt, padded, lastFields, openingBytes};
 ghost use Rattle.meta.specs.Meta2.{meta2};
 ghost use Rattle.emit.specs.Parts.{versions, shape};
 use endian::store;
 use endian::write;
-use meta::first;
+use meta::field;
+use meta::head;
 use meta::head::Head;
 
 // Zeros from `from` up to `to`.
@@ -79,7 +80,7 @@ pub fn last_fields(image: &mut [u8], n: u32, big: bool, maxchunks: u32, start: u
     requires { ⌜ (n ≤ maxTasks) × (meta1End n ≤ length (now image)) ⌝ }
     ensures { λ _. ⌜ now (image .exit) ≡ splice (now (image .entry)) (lastAt n) (lastFields big maxchunks start) ⌝ }
 {
-    let at = first::RANKS_AT + 16 * n as usize;
+    let at = field::last_at(n as usize);
     write::put_u32(image, at, big, maxchunks);
     write::put_u64(image, at + 4, big, start);
 }
@@ -89,12 +90,12 @@ fn put_versions(image: &mut [u8], big: bool, version: i32, patch: i32)
     requires { ⌜ 20 ≤ length (now image) ⌝ }
     ensures { λ _. ⌜ now (image .exit) ≡ splice (now (image .entry)) 0 (versions big version patch) ⌝ }
 {
-    let mark = first::MARK;
+    let mark = field::MARK;
     store::copy_in(image, &mark);
-    write::put_u32(image, first::ORDER_AT, big, 1);
-    write::put_i32(image, first::VERSION_AT, big, version);
-    write::put_i32(image, first::PATCH_AT, big, patch);
-    write::put_u32(image, first::FORMAT_AT, big, first::FORMAT);
+    write::put_u32(image, field::ORDER_AT, big, field::ORDER);
+    write::put_i32(image, field::VERSION_AT, big, version);
+    write::put_i32(image, field::PATCH_AT, big, patch);
+    write::put_u32(image, field::FORMAT_AT, big, field::FORMAT);
 }
 
 // The blocksize, the tasks, the one file and two flags of zeros, from 20 on.
@@ -102,11 +103,11 @@ fn put_shape(image: &mut [u8], big: bool, blocksize: u32, n: u32)
     requires { ⌜ 52 ≤ length (now image) ⌝ }
     ensures { λ _. ⌜ now (image .exit) ≡ splice (now (image .entry)) 20 (shape big blocksize n) ⌝ }
 {
-    write::put_u32(image, first::BLOCKSIZE_AT, big, blocksize);
-    write::put_u32(image, first::TASKS_AT, big, n);
-    write::put_u32(image, first::FILES_AT, big, first::FILES);
-    write::put_u32(image, first::FILE_NUMBER_AT, big, first::FILE_NUMBER);
-    put_zeros(image, first::FLAGS_AT, first::PREFIX_AT);
+    write::put_u32(image, field::BLOCKSIZE_AT, big, blocksize);
+    write::put_u32(image, field::TASKS_AT, big, n);
+    write::put_u32(image, field::FILES_AT, big, field::FILES);
+    write::put_u32(image, field::FILE_NUMBER_AT, big, field::FILE_NUMBER);
+    put_zeros(image, field::FLAGS_AT, field::PREFIX_AT);
 }
 
 // The prefix and the zeros after it, from 52 on.
@@ -114,8 +115,8 @@ fn put_prefix(image: &mut [u8], prefix: &[u8])
     requires { ⌜ (length (now prefix) ≤ prefixLength) × (52 + prefixLength ≤ length (now image)) ⌝ }
     ensures { λ _. ⌜ now (image .exit) ≡ splice (now (image .entry)) 52 (padded (now (prefix .entry))) ⌝ }
 {
-    store::copy_in(&mut image[first::PREFIX_AT..], prefix);
-    put_zeros(image, first::PREFIX_AT + prefix.len(), first::RANKS_AT);
+    store::copy_in(&mut image[field::PREFIX_AT..], prefix);
+    put_zeros(image, field::PREFIX_AT + prefix.len(), field::RANKS_AT);
 }
 
 // All of META1 before the ranks.
@@ -129,19 +130,24 @@ fn put_fixed(image: &mut [u8], h: Head, big: bool, prefix: &[u8])
 }
 
 // META1, its last two fields 0, and zeros up to D: what opening stores.
-pub fn meta1(image: &mut [u8], h: Head, prefix: &[u8])
-    requires { ⌜ (blocksizeRule (pos (h .blocksize)) ≡ true) × (h .n ≤ maxTasks) ⌝ }
+pub fn meta1(image: &mut [u8], h: Head, lists: &[u64], prefix: &[u8])
+    requires { ⌜ (blocksizeRule (pos (h .blocksize)) ≡ true) × (h .n ≤ maxTasks) × (length (now lists) ≡ allLists) ⌝ }
     requires { ⌜ length (now prefix) ≤ prefixLength ⌝ }
     requires { ⌜ dataStart (h .blocksize) (h .n) ≤ length (now image) ⌝ }
-    ensures { λ _. ⌜ now (image .exit) ≡ splice (now (image .entry)) 0 (openingBytes h (now (prefix .entry))) ⌝ }
+    ensures { λ _. ⌜ now (image .exit) ≡ splice (now (image .entry)) 0 (openingBytes h (rankOf (now (lists .entry))) (sizeOf (now (lists .entry))) (now (prefix .entry))) ⌝ }
 {
     let big = h.order == 1;
     let n = h.n as usize;
-    let sizes = first::RANKS_AT + 8 * n;
-    let last = sizes + 8 * n;
+    let last = field::last_at(n);
     let end = layout::data_start(h.n, h.blocksize) as usize;
     put_fixed(image, h, big, prefix);
-    put_list(image, first::RANKS_AT, &h.ranks, n, big);
-    put_list(image, sizes, &h.sizes, n, big);
+    put_list(image, field::RANKS_AT, &lists[..head::SIZES], n, big);
+    put_list(
+        image,
+        field::sizes_at(n),
+        &lists[head::SIZES..head::COUNTS],
+        n,
+        big,
+    );
     put_zeros(image, last, end);
 }

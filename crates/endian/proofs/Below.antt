@@ -1,11 +1,11 @@
 -- Laws of tests, and of what is said of every index below a number, by which a loop that counts up computes it. Assumes nothing.
 use mathlib.Core.Path.{_≡_, refl, ap, ap₂, sym, _∙_}
-use mathlib.Core.Bool.{Bool, true, false, not, _&&_, _||_, and-false, or-true, false≢true}
+use mathlib.Core.Bool.{Bool, true, false, not, _&&_, _||_, and-false, and-true, and-assoc, or-true, false≢true}
 use mathlib.Core.List.{List, [], _∷_, _++_}
 use mathlib.Core.Logic.{⊎-elim}
-use Prim.Native.Nat.{ℕ, zero, suc, _+_, _*_, _<_, _≤_, max, zero-le}
+use Prim.Native.Nat.{ℕ, zero, suc, _+_, _-_, _*_, _<_, _≤_, max, zero-le}
 use native.Mathlib.Nat.{not-suc-le-zero, le-antisymm, le-trans, eq-or-lt-of-le, le-of-suc-le-suc, suc-mul, mul-one, mul-le-mul-right}
-use native.Mathlib.Nat.{le-of-eq, le-add-right, add-mul, le-max-left, le-max-right, max-le, max-eq-left, max-eq-right}
+use native.Mathlib.Nat.{le-of-eq, le-add-right, add-zero, add-suc, add-mul, le-max-left, le-max-right, max-le, max-eq-left, max-eq-right}
 use native.Mathlib.Numerals.{add-one}
 use native.Mathlib.Omega.{arith}
 use lib.Arith.{le-zero}
@@ -53,6 +53,10 @@ module _ (p : ℕ → Bool) where
   unfolding allBelow
   all-more i all here = rw (add-one, all) here
 
+  pub all-turn : (i : ℕ) → allBelow (i + 1) p ≡ (allBelow i p && p i)
+  unfolding allBelow
+  all-turn i = rw add-one
+
   pub all-end : {n i : ℕ} → i ≤ n → n ≤ i → allBelow i p ≡ true → true ≡ allBelow n p
   all-end l m all = sym (ap (λ (k : ℕ). allBelow k p) (le-antisymm m l) ∙ all)
 
@@ -83,6 +87,22 @@ module _ (p : ℕ → Bool) where
   unfolding allBelow
   all-of zero h = refl
   all-of (suc n) h = rw (all-of n (λ i l. h i (omega arith))) (h n (omega arith))
+
+  -- the test of the first i indices, and then of w more
+  pub all-part : (i w : ℕ) → allBelow (i + w) p ≡ (allBelow i p && allBelow w (λ j. p (i + j)))
+  unfolding allBelow
+  all-part i zero = rw add-zero (sym (and-true (allBelow i p)))
+  all-part i (suc w) = rw (add-suc, all-part i w) (and-assoc (allBelow i p) (allBelow w (λ j. p (i + j))) (p (i + w)))
+
+  -- of w more indices a call answered with r, and the code asked for its opposite
+  pub run-holds : (i w : ℕ) {r : Bool} → allBelow i p ≡ true → r ≡ allBelow w (λ j. p (i + j)) → not r ≡ false → allBelow (i + w) p ≡ true
+  run-holds i w all e h = all-part i w ∙ rw all (test-holds e h)
+
+  pub run-fails : {n : ℕ} (i w : ℕ) {r : Bool} → i + w ≤ n → r ≡ allBelow w (λ j. p (i + j)) → not r ≡ true → false ≡ allBelow n p
+  run-fails {n} i w l e h =
+      let fails : allBelow (i + w) p ≡ false = all-part i w ∙ rw (test-fails e h) (and-false (allBelow i p)) in
+      let whole : i + w + (n - (i + w)) ≡ n = omega arith in
+      sym (ap (λ (k : ℕ). allBelow k p) (sym whole) ∙ all-part (i + w) (n - (i + w)) ∙ rw fails)
 
   -- one index of which the test holds, and back
   pub any-of : (n i : ℕ) → i < n → p i ≡ true → anyBelow n p ≡ true

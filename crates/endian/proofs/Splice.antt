@@ -11,7 +11,7 @@ use lib.ListN.{length, take, drop, getD, set, length-append, length-drop, take-a
 use lib.Seq.{length-take-le, take-nil, take-take, take-at, take-add, take-append-seam, take-append-le, drop-at, drop-drop, drop-append-le}
 use lib.Seq.{getD-take, getD-drop, set-split}
 use Rattle.endian.specs.Below.{joinBelow, listBelow}
-use Rattle.endian.proofs.Below.{join-more, length-join, length-list}
+use Rattle.endian.proofs.Below.{join-more, length-join, length-list, getD-list}
 use Rattle.endian.specs.Splice.{splice}
 
 module _ {ℓ} {A : Type ℓ} where
@@ -146,17 +146,29 @@ module _ {ℓ} {A : Type ℓ} where
       set-splice (splice xs at us) (at + length us) v (rw (length-splice xs at us (omega arith)) l)
       ∙ splice-next xs at us (v ∷ []) (omega arith)
 
-  -- a splice of the first i of numbered elements: of none, and after the store of the next
-  pub splice-none : (xs : List A) (f : ℕ → A) → xs ≡ splice xs 0 (listBelow 0 f)
+  -- a splice of the first i of numbered elements: of none, after the store of the next, and the same from the start on
+  pub list-none : (xs : List A) (at : ℕ) (f : ℕ → A) → xs ≡ splice xs at (listBelow 0 f)
   unfolding splice joinBelow
-  splice-none xs f = refl
+  list-none xs at f = rw add-zero (sym (take-append-drop at xs))
+
+  pub list-more : (xs : List A) (at : ℕ) (f : ℕ → A) (i : ℕ) → at + i < length xs
+      → set (splice xs at (listBelow i f)) (at + i) (f i) ≡ splice xs at (listBelow (i + 1) f)
+  list-more xs at f i l =
+      rw (join-more (λ j. f j ∷ []) i)
+      (rw (length-list f i) at (splice-set xs at (listBelow i f) (f i) (rw (length-list f i) l)))
+
+  pub splice-none : (xs : List A) (f : ℕ → A) → xs ≡ splice xs 0 (listBelow 0 f)
+  splice-none xs f = list-none xs 0 f
 
   pub splice-more : (xs : List A) (f : ℕ → A) (i : ℕ) → i < length xs
       → set (splice xs 0 (listBelow i f)) i (f i) ≡ splice xs 0 (listBelow (i + 1) f)
-  splice-more xs f i l =
-      let e : 0 + length (listBelow i f) ≡ i = zero-add (length (listBelow i f)) ∙ length-list f i in
-      rw (join-more (λ j. f j ∷ []) i)
-      (rw e at (splice-set xs 0 (listBelow i f) (f i) (rw e l)))
+  splice-more xs f i l = rw zero-add at (list-more xs 0 f i (rw zero-add l))
+
+  -- and each of them
+  pub splice-list : (xs : List A) (f : ℕ → A) (n : ℕ) (d : A) → n ≤ length xs → (i : ℕ) → i < n → getD (splice xs 0 (listBelow n f)) i d ≡ f i
+  splice-list xs f n d fits i l =
+      let e : length (listBelow n f) ≡ n = length-list f n in
+      rw zero-add at (getD-splice-in xs 0 (listBelow n f) (omega arith) i d (omega arith)) ∙ getD-list f n i d l
 
   -- xs became ys when vs were put at `at`, and these end at `end`
   abbrev pub Put : List A → ℕ → List A → List A → ℕ → Type ℓ

@@ -1,5 +1,5 @@
 // Numbers of 4 and 8 bytes in either byte order, unsigned and signed, and the two stores of bytes that all others go through.
 pub mod read;
-mod sign;
+pub mod sign;
 pub mod store;
 pub mod write;

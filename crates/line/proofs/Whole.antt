@@ -15,11 +15,10 @@ use Rattle.io.specs.Counts.{Counts}
 use Rattle.io.proofs.Counting.{counts}
 use Rattle.layout.specs.Limits.{maxTasks, tasksRule}
 use Rattle.meta.specs.Meta1.{tasksField}
-use Rattle.meta.specs.Heads.{headOf}
 use Rattle.meta.specs.Judge.{bigIn, tasksIn, headIn}
 use Rattle.meta.proofs.Refusals.{when-accepted}
-use Rattle.reading.specs.declared.record.Checked.{Checked}
-use Rattle.reading.specs.Load.{loadRefusal, loadedIn, loadAnswer, loadTable}
+use Rattle.reading.specs.declared.record.LoadAnswer.{LoadAnswer}
+use Rattle.reading.specs.Load.{loadRefusal, loadedIn, checkAnswer, loadAnswer, loadTable}
 use Rattle.reading.specs.Reads.{containerOf}
 use Rattle.reading.proofs.LoadTests.{load-holds}
 use Rattle.container.proofs.Refusing.{load-number}
@@ -27,12 +26,12 @@ use Rattle.line.specs.Line.{decimal, space, spaced, cells, totalsOf, loa
 use Rattle.endian.proofs.Splice.{Put, put-is}
 
 -- an accepted container has no more than the most tasks
-pub few-tasks : (image : List ℕ) (table : List ℤ) (answer : Checked) → answer ≡ loadAnswer image table → answer .refusal ≡ 0
+pub few-tasks : (image : List ℕ) (table : List ℤ) (answer : LoadAnswer) → answer ≡ loadAnswer image table → answer .refusal ≡ 0
     → answer .loaded .head .n ≤ maxTasks
-unfolding loadAnswer loadedIn headIn headOf tasksIn tasksRule
+unfolding loadAnswer checkAnswer loadedIn headIn tasksIn tasksRule
 few-tasks image table answer e none =
-    let z : loadRefusal image (length table) ≡ 0 = sym (load-number image table) ∙ ap (λ (a : Checked). a .refusal) (sym e) ∙ none in
-    let n = ap (λ (a : Checked). a .loaded .head .n) (e ∙ when-accepted (loadRefusal image (length table)) _ _ z) in
+    let z : loadRefusal image (length table) ≡ 0 = sym (load-number image table) ∙ ap (λ (a : LoadAnswer). a .refusal) (sym e) ∙ none in
+    let n = ap (λ (a : LoadAnswer). a .loaded .head .n) (e ∙ when-accepted (loadRefusal image (length table)) _ _ z) in
     rw n (within-natural 1 maxTasks (tasksField (bigIn image) image) (load-holds image (length table) z .first .tasks) .2)
 
 -- the line, put at the start of the memory
@@ -42,18 +41,18 @@ line-put image xs {ys = ys} {end = end} e fits p = let q = put-is xs 0 e p in (q
 
 module _ (image : List ℕ) where
   -- what the line says after the refusal
-  abbrev told : Checked → List ℤ → List ℕ
+  abbrev told : LoadAnswer → List ℤ → List ℕ
   told answer table =
       answer .loaded .head .n
       ∷ answer .loaded .maxchunks
-      ∷ totalsOf (containerOf (answer .loaded) image table)
+      ∷ totalsOf (containerOf (answer .loaded) (answer .lists) image table)
 
-  module _ (answer : Checked) (table : List ℤ) (e : answer ≡ loadAnswer image (replicate cells (pos 0)))
+  module _ (answer : LoadAnswer) (table : List ℤ) (e : answer ≡ loadAnswer image (replicate cells (pos 0)))
       (t : table ≡ loadTable image (replicate cells (pos 0))) where
     line-is : decimal (answer .refusal) ++ spaced (cond (eqb (answer .refusal) 0) (told answer table) []) ≡ lineOf image
     unfolding lineOf rest loaded
     line-is =
-        ap₂ (λ (a : Checked) (s : List ℤ). decimal (a .refusal) ++ spaced (cond (eqb (a .refusal) 0) (told a s) [])) e t
+        ap₂ (λ (a : LoadAnswer) (s : List ℤ). decimal (a .refusal) ++ spaced (cond (eqb (a .refusal) 0) (told a s) [])) e t
 
     by-test : (b : Bool) → eqb (answer .refusal) 0 ≡ b → decimal (answer .refusal) ++ spaced (cond b (told answer table) []) ≡ lineOf image
     by-test b f =
@@ -64,6 +63,6 @@ module _ (image : List ℕ) where
 
     pub accepted-line : answer .refusal ≡ 0
         → ((decimal (answer .refusal) ++ (space ∷ decimal (answer .loaded .head .n))) ++ (space ∷ decimal (answer .loaded .maxchunks)))
-        ++ spaced (totalsOf (containerOf (answer .loaded) image table))
+        ++ spaced (totalsOf (containerOf (answer .loaded) (answer .lists) image table))
         ≡ lineOf image
     accepted-line none = simp append-assoc (by-test _ (eq-eqb (answer .refusal) 0 none))

@@ -8,7 +8,7 @@ use lib.IntN.{ℤ, pos}
 use lib.ListN.{replicate}
 use Rattle.endian.specs.Below.{listBelow}
 use Rattle.io.specs.Digits.{digits}
-use Rattle.reading.specs.declared.record.Checked.{Checked}
+use Rattle.reading.specs.declared.record.LoadAnswer.{LoadAnswer}
 use Rattle.reading.specs.Load.{loadAnswer, loadTable}
 use Rattle.reading.specs.Reads.{Container, containerOf, totalAnswer}
 
@@ -43,7 +43,7 @@ module _ (image : List ℕ) where
   abbrev blank : List ℤ
   blank = replicate cells (pos 0)
 
-  unfoldable pub loaded : Checked
+  unfoldable pub loaded : LoadAnswer
   loaded = loadAnswer image blank
 
   -- the numbers after the first
@@ -52,7 +52,7 @@ module _ (image : List ℕ) where
       cond (eqb (loaded .refusal) 0)
       (loaded .loaded .head .n
       ∷ loaded .loaded .maxchunks
-      ∷ totalsOf (containerOf (loaded .loaded) image (loadTable image blank)))
+      ∷ totalsOf (containerOf (loaded .loaded) (loaded .lists) image (loadTable image blank)))
       []
 
   unfoldable pub lineOf : List ℕ

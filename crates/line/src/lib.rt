@@ -10,6 +10,7 @@ ghost use Rattle.reading.specs.declared.record.Loaded.{Loaded};
 ghost use Rattle.reading.specs.Reads.{containerOf};
 ghost use Rattle.line.specs.Line.{decimal, space, spaced, totalsOf, lineOf};
 use endian::store;
+use meta::head::LISTS;
 use reading::record::Loaded;
 
 pub mod input;
@@ -43,16 +44,23 @@ fn put_spaced(out: &mut [u8], at: usize, n: u64) -> usize
 }
 
 // Each task's total behind the first `at` bytes: how many there are then.
-fn put_totals(l: Loaded, image: &[u8], table: &[i64], out: &mut [u8], at: usize) -> usize
+fn put_totals(
+    l: Loaded,
+    lists: &[u64; LISTS],
+    image: &[u8],
+    table: &[i64],
+    out: &mut [u8],
+    at: usize,
+) -> usize
     requires { ⌜ at + 21 * l .head .n ≤ length (now out) ⌝ }
-    ensures { λ _. ⌜ now (out .exit) ≡ splice (now (out .entry)) at (spaced (totalsOf (containerOf l (now (image .entry)) (now (table .entry))))) ⌝ }
-    ensures { λ r. ⌜ (r ≡ at + length (spaced (totalsOf (containerOf l (now (image .entry)) (now (table .entry)))))) × (r ≤ at + 21 * l .head .n) ⌝ }
+    ensures { λ _. ⌜ now (out .exit) ≡ splice (now (out .entry)) at (spaced (totalsOf (containerOf l (now (lists .entry)) (now (image .entry)) (now (table .entry))))) ⌝ }
+    ensures { λ r. ⌜ (r ≡ at + length (spaced (totalsOf (containerOf l (now (lists .entry)) (now (image .entry)) (now (table .entry)))))) × (r ≤ at + 21 * l .head .n) ⌝ }
 {
     let n = l.head.n as u64;
     let mut end = at;
     let mut i = 0;
     while i < n {
-        let answer = container::total(l, image, table, i + 1);
+        let answer = container::total(l, lists, image, table, i + 1);
         end = put_spaced(out, end, answer.bytes);
         i += 1;
     }
@@ -72,7 +80,8 @@ pub fn line(image: &[u8], out: &mut [u8; LINE]) -> usize
         return first;
     }
     let l = answer.loaded;
+    let lists = answer.lists;
     let second = put_spaced(out, first, l.head.n as u64);
     let third = put_spaced(out, second, l.maxchunks as u64);
-    put_totals(l, image, &table, out, third)
+    put_totals(l, &lists, image, &table, out, third)
 }

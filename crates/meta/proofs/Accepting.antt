@@ -23,9 +23,9 @@ use Rattle.meta.specs.declared.head.Head.{Head}
 use Rattle.meta.specs.Refusals.{firstFailing}
 use Rattle.meta.specs.Meta1
 use Rattle.meta.specs.Meta2
-use Rattle.meta.specs.Heads.{entry, isBig, holds, headOf, meta2At, endAt}
-use Rattle.meta.specs.Judge.{is, markedIn, bigIn, orderedIn, tasksIn, maxchunksIn, headIn, startTests, fieldTests, fixedTests, listTests, lastTests, meta1Tests}
-use Rattle.meta.specs.Judge.{countsIn, meta2Tests}
+use Rattle.meta.specs.Heads.{isBig, holds, meta2At, endAt}
+use Rattle.meta.specs.Judge.{is, markedIn, bigIn, orderedIn, tasksIn, maxchunksIn, headIn, sizeIn, meta2In, startTests, fieldTests, fixedTests, listTests, lastTests, restTests, meta1Tests}
+use Rattle.meta.specs.Judge.{countIn, meta2Tests}
 use Rattle.meta.proofs.Refusals.{Numbered, none-fails, all-pass}
 use Rattle.meta.proofs.Rules.{blocksize-natural}
 
@@ -47,8 +47,8 @@ pub record Meta1Holds (xs : List ℕ) (len : ℕ) : Type 0 where
   pub ranks : ranksRule (tasksIn xs) (Meta1.rankField (bigIn xs) xs) ≡ true
   pub sizes : sizesRule (tasksIn xs) (Meta1.sizeField (bigIn xs) xs (tasksIn xs)) ≡ true
   pub maxchunks : maxchunksRule (Meta1.maxchunksField (bigIn xs) xs (tasksIn xs)) ≡ true
-  pub start-is : Meta1.startField (bigIn xs) xs (tasksIn xs) ≡ pos (meta2At (headIn xs) (maxchunksIn xs))
-  pub fits : endAt (headIn xs) (maxchunksIn xs) ≤ len
+  pub start-is : Meta1.startField (bigIn xs) xs (tasksIn xs) ≡ pos (meta2In xs)
+  pub fits : endAt (headIn xs) (sizeIn xs) (maxchunksIn xs) ≤ len
 
 module _ (xs : List ℕ) where
   -- the mark, byte by byte and whole
@@ -100,11 +100,11 @@ module _ (xs : List ℕ) where
 
   module _ (len : ℕ) where
     pub meta1-numbered : Numbered (meta1Tests xs len)
-    unfolding meta1Tests startTests fieldTests fixedTests listTests lastTests
+    unfolding meta1Tests startTests fieldTests fixedTests listTests lastTests restTests
     meta1-numbered = omega arith
 
     pub meta1-holds : firstFailing (meta1Tests xs len) ≡ 0 → Meta1Holds xs len
-    unfolding meta1Tests startTests fieldTests fixedTests listTests lastTests
+    unfolding meta1Tests startTests fieldTests fixedTests listTests lastTests restTests
     meta1-holds e =
         let (mark, (order, (short, (format, (blocksize, (tasks, (files, (long, (ranks, (sizes, (unclosed, (maxchunks, (place, end)))))))))))))
         = none-fails (meta1Tests xs len) meta1-numbered e in
@@ -120,22 +120,22 @@ module _ (xs : List ℕ) where
           ranks = not-false _ ranks;
           sizes = not-false _ sizes;
           maxchunks = not-false _ maxchunks;
-          start-is = within-one _ _ (not-false _ (or-left _ (ltb len (endAt (headIn xs) (maxchunksIn xs))) place));
-          fits = ltb-false _ _ (or-right (not (is (meta2At (headIn xs) (maxchunksIn xs)) (Meta1.startField (bigIn xs) xs (tasksIn xs)))) _ place);
+          start-is = within-one _ _ (not-false _ (or-left _ (ltb len (endAt (headIn xs) (sizeIn xs) (maxchunksIn xs))) place));
+          fits = ltb-false _ _ (or-right (not (is (meta2In xs) (Meta1.startField (bigIn xs) xs (tasksIn xs)))) _ place);
         }
 
     -- META2 never starts at 0
-    start-some : Meta1Holds xs len → 0 < meta2At (headIn xs) (maxchunksIn xs)
-    unfolding headIn headOf meta2At meta2Start meta1End
+    start-some : Meta1Holds xs len → 0 < meta2In xs
+    unfolding headIn meta2In meta2At meta2Start meta1End
     start-some h =
         let b : ℕ = natural (Meta1.blocksizeField (bigIn xs) xs) in
         let some : 0 < b = omega (arith, blocksize-natural _ (h .blocksize) .1) in
         omega (arith, meta1-before-data b (tasksIn xs) some)
 
     pub meta1-passes : Meta1Holds xs len → firstFailing (meta1Tests xs len) ≡ 0
-    unfolding meta1Tests startTests fieldTests fixedTests listTests lastTests meta1End
+    unfolding meta1Tests startTests fieldTests fixedTests listTests lastTests restTests meta1End
     meta1-passes h =
-        let start : ℕ = meta2At (headIn xs) (maxchunksIn xs) in
+        let start : ℕ = meta2In xs in
         let mark = or-both (le-ltb len (length Meta1.mark) (omega arith)) (ap not (h .marked)) in
         let order = or-both (le-ltb len 8 (omega arith)) (ap not (ordered-holds (h .order-is))) in
         let short = le-ltb len Meta1.fixedLength (omega arith) in
@@ -149,30 +149,30 @@ module _ (xs : List ℕ) where
         let closed = ap (is 0) (h .start-is) ∙ within-over 0 0 start (start-some h) in
         let maxchunks = ap not (h .maxchunks) in
         let there = ap (λ (z : ℤ). not (is start z)) (h .start-is) ∙ ap not (is-refl start) in
-        let place = or-both there (le-ltb len (endAt (headIn xs) (maxchunksIn xs)) (h .fits)) in
+        let place = or-both there (le-ltb len (endAt (headIn xs) (sizeIn xs) (maxchunksIn xs)) (h .fits)) in
         all-pass (meta1Tests xs len)
         (mark, (order, (short, (format, (blocksize, (tasks, (files, (long, (ranks, (sizes, (closed, (maxchunks, (place, tt)))))))))))))
 
 -- ---- META2
 
-module _ (h : Head) (maxchunks : ℕ) (part : List ℕ) where
+module _ (h : Head) (size : ℕ → ℕ) (maxchunks : ℕ) (part : List ℕ) where
   pub record Meta2Holds : Type 0 where
     pub counts : Meta2.countsRule (h .n) maxchunks (Meta2.countField (isBig h) part) ≡ true
-    pub values : Meta2.valuesRule (h .n) maxchunks (holds h) (entry (countsIn h maxchunks part)) (Meta2.valueField (isBig h) part (h .n)) ≡ true
+    pub values : Meta2.valuesRule (h .n) maxchunks (holds h size) (countIn h part) (Meta2.valueField (isBig h) part (h .n)) ≡ true
 
-  meta2-numbered : Numbered (meta2Tests h maxchunks part)
+  meta2-numbered : Numbered (meta2Tests h size maxchunks part)
   unfolding meta2Tests
   meta2-numbered = omega arith
 
-  pub meta2-holds : firstFailing (meta2Tests h maxchunks part) ≡ 0 → Meta2Holds
+  pub meta2-holds : firstFailing (meta2Tests h size maxchunks part) ≡ 0 → Meta2Holds
   unfolding meta2Tests
   meta2-holds e =
-      let both = not-false _ (none-fails (meta2Tests h maxchunks part) meta2-numbered e .0) in
+      let both = not-false _ (none-fails (meta2Tests h size maxchunks part) meta2-numbered e .0) in
       record {
-        counts = and-left _ (Meta2.valuesRule (h .n) maxchunks (holds h) (entry (countsIn h maxchunks part)) (Meta2.valueField (isBig h) part (h .n))) both;
+        counts = and-left _ (Meta2.valuesRule (h .n) maxchunks (holds h size) (countIn h part) (Meta2.valueField (isBig h) part (h .n))) both;
         values = and-right (Meta2.countsRule (h .n) maxchunks (Meta2.countField (isBig h) part)) _ both;
       }
 
-  pub meta2-passes : Meta2Holds → firstFailing (meta2Tests h maxchunks part) ≡ 0
+  pub meta2-passes : Meta2Holds → firstFailing (meta2Tests h size maxchunks part) ≡ 0
   unfolding meta2Tests
-  meta2-passes r = all-pass (meta2Tests h maxchunks part) (rw (r .counts, r .values), tt)
+  meta2-passes r = all-pass (meta2Tests h size maxchunks part) (rw (r .counts, r .values), tt)

@@ -2,14 +2,11 @@
 use mathlib.Core.Path.{_≡_, refl, ap, sym, _∙_, fun-ext}
 use mathlib.Core.Bool.{Bool, true, false, cond}
 use mathlib.Core.List.{List, [], _∷_}
-use mathlib.Core.Logic.{⊎-elim}
-use Prim.Native.Nat.{ℕ, _+_, _<_, _≤_}
-use native.Mathlib.Nat.{eq-or-lt-of-le}
+use Prim.Native.Nat.{ℕ, _<_, _≤_}
 use native.Mathlib.Omega.{arith}
-use borrow.Author.Tests.{lt-ltb, le-ltb, ltb-true, ltb-false, eqb-true, eqb-false}
-use lib.Dec.{ltb, eqb}
-use lib.ListN.{length, getD, set, replicate, length-set, length-replicate, getD-replicate, List·getD-eq-default}
-use lib.Seq.{ext-getD, getD-set-same, getD-set-other}
+use borrow.Author.Tests.{lt-ltb, le-ltb, ltb-true, ltb-false}
+use lib.Dec.{ltb}
+use lib.ListN.{length, getD, List·getD-eq-default}
 use Rattle.endian.proofs.Below.{length-list, getD-list, join-cong}
 use Rattle.layout.specs.Limits.{maxTasks}
 use Rattle.meta.specs.Heads.{entry, filled}
@@ -52,34 +49,3 @@ filled-cong n f g h =
     pick : (i : ℕ) (b : Bool) → ltb i n ≡ b → cond b (f i) 0 ≡ cond b (g i) 0
     pick i true e = h i (ltb-true i n e)
     pick i false e = refl
-
--- before the first entry is stored, and after one is
-pub filled-none : (f : ℕ → ℕ) → replicate maxTasks 0 ≡ filled 0 f
-filled-none f =
-    let long : length (replicate {A = ℕ} maxTasks 0) ≡ maxTasks = length-replicate {A = ℕ} maxTasks 0 in
-    ext-getD 0 (replicate maxTasks 0) (filled 0 f) (long ∙ sym (length-filled 0 f))
-    (λ i l.
-    let l′ : i < maxTasks = rw long at l in
-    getD-replicate maxTasks i 0 0 l′ ∙ sym (entry-past 0 f i (omega arith) l′))
-
-pub filled-more : (i : ℕ) (f : ℕ → ℕ) → i < maxTasks → set (filled i f) i (f i) ≡ filled (i + 1) f
-filled-more i f h =
-    ext-getD 0 (set (filled i f) i (f i)) (filled (i + 1) f)
-    (length-set (filled i f) i (f i) ∙ length-filled i f ∙ sym (length-filled (i + 1) f))
-    (λ j l. pick j (rw (length-set (filled i f) i (f i), length-filled i f) at l) (eqb j i) refl)
-  where
-    same : (j : ℕ) → (j ≡ i → ⊥) → (b : Bool) → ltb j i ≡ b → b ≡ ltb j (i + 1)
-    same j d true e = sym (lt-ltb j (i + 1) (omega (arith, ltb-true j i e)))
-    same j d false e =
-        sym (le-ltb j (i + 1) (⊎-elim (λ here. absurd (d (sym here))) (λ past. omega arith) (eq-or-lt-of-le (ltb-false j i e))))
-
-    pick : (j : ℕ) → j < maxTasks → (b : Bool) → eqb j i ≡ b → getD (set (filled i f) i (f i)) j 0 ≡ getD (filled (i + 1) f) j 0
-    pick j l true e =
-        let here : j ≡ i = eqb-true j i e in
-        rw here
-        (getD-set-same (filled i f) i (f i) 0 (rw (length-filled i f) h) ∙ sym (entry-filled (i + 1) f i (omega arith) (omega arith)))
-    pick j l false e =
-        getD-set-other (filled i f) i j (f i) 0 (eqb-false j i e)
-        ∙ entry-any i f j l
-        ∙ ap (λ (b : Bool). cond b (f j) 0) (same j (eqb-false j i e) (ltb j i) refl)
-        ∙ sym (entry-any (i + 1) f j l)

@@ -1,15 +1,12 @@
--- What a head that was made says: the numbers that it was made of. Assumes nothing.
+-- What a head says of an order, and that what it says with sizes depends on the sizes of its tasks alone. Assumes nothing.
 use mathlib.Core.Path.{_≡_, refl, ap}
 use mathlib.Core.Bool.{Bool, true, false}
 use Prim.Native.Nat.{ℕ, _≤_, _<_}
 use lib.Dec.{eqb}
-use lib.IntN.{ℤ}
-use Rattle.layout.specs.Limits.{maxTasks}
-use Rattle.layout.specs.Areas.{capacity, chunkStart, meta2Start, meta2End}
+use Rattle.layout.specs.Areas.{capacity}
 use Rattle.layout.proofs.Chunks.{chunkStart-agree, meta2Start-agree, meta2End-agree}
 use Rattle.meta.specs.declared.head.Head.{Head}
-use Rattle.meta.proofs.Filled.{entry-filled}
-use Rattle.meta.specs.Heads.{entry, filled, isOrder, orderOf, holds, startOf, meta2At, endAt, headOf}
+use Rattle.meta.specs.Heads.{isOrder, orderOf, holds, startOf, meta2At, endAt}
 
 pub isBig-order : (big : Bool) → eqb (orderOf big) 1 ≡ big
 isBig-order true = refl
@@ -19,24 +16,19 @@ pub order-sound : (big : Bool) → isOrder (orderOf big) ≡ true
 order-sound true = refl
 order-sound false = refl
 
--- what a head says is what the numbers say that it was made of
-module _ (order : ℕ) (version patch : ℤ) (blocksize n : ℕ) (rank size : ℕ → ℕ) (few : n ≤ maxTasks) where
-  abbrev made : Head
-  made = headOf order version patch blocksize n rank size
+module _ (h : Head) (size size′ : ℕ → ℕ) (same : (i : ℕ) → i < h .n → size i ≡ size′ i) where
+  pub holds-agree : (i : ℕ) → i < h .n → holds h size i ≡ holds h size′ i
+  unfolding holds
+  holds-agree i l = ap (capacity (h .blocksize)) (same i l)
 
-  pub holds-made : (i : ℕ) → i < n → holds made i ≡ capacity blocksize (size i)
-  unfolding holds headOf
-  holds-made i l = ap (capacity blocksize) (entry-filled n size i few l)
+  pub startOf-agree : (task chunk : ℕ) → task ≤ h .n → startOf h size task chunk ≡ startOf h size′ task chunk
+  unfolding startOf
+  startOf-agree task chunk l = chunkStart-agree (h .blocksize) (h .n) size size′ same task chunk l
 
-  pub startOf-made : (task chunk : ℕ) → task ≤ n → startOf made task chunk ≡ chunkStart blocksize n size task chunk
-  unfolding startOf headOf
-  startOf-made task chunk l =
-      chunkStart-agree blocksize n (entry (filled n size)) size (λ i l. entry-filled n size i few l) task chunk l
+  pub meta2At-agree : (maxchunks : ℕ) → meta2At h size maxchunks ≡ meta2At h size′ maxchunks
+  unfolding meta2At
+  meta2At-agree maxchunks = meta2Start-agree (h .blocksize) (h .n) size size′ same maxchunks
 
-  pub meta2At-made : (maxchunks : ℕ) → meta2At made maxchunks ≡ meta2Start blocksize n size maxchunks
-  unfolding meta2At headOf
-  meta2At-made maxchunks = meta2Start-agree blocksize n (entry (filled n size)) size (λ i l. entry-filled n size i few l) maxchunks
-
-  pub endAt-made : (maxchunks : ℕ) → endAt made maxchunks ≡ meta2End blocksize n size maxchunks
-  unfolding endAt headOf
-  endAt-made maxchunks = meta2End-agree blocksize n (entry (filled n size)) size (λ i l. entry-filled n size i few l) maxchunks
+  pub endAt-agree : (maxchunks : ℕ) → endAt h size maxchunks ≡ endAt h size′ maxchunks
+  unfolding endAt
+  endAt-agree maxchunks = meta2End-agree (h .blocksize) (h .n) size size′ same maxchunks

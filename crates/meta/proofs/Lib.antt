@@ -1,5 +1,6 @@
 pub mod Refusals
 pub mod Filled
+pub mod Stripes
 pub mod Fields
 pub mod Unsigned
 pub mod Values

@@ -10,9 +10,9 @@ use lib.IntN.{ℤ}
 use borrow.Author.Tests.{lt-ltb, le-ltb, ltb-true, ltb-false, eqb-true, eq-eqb}
 use Rattle.endian.specs.Below.{allBelow, greatestBelow}
 use Rattle.endian.specs.Signed.{within, sameZ, natural}
-use Rattle.endian.proofs.Below.{and-left, and-right, all-at, all-of, greatest-at, greatest-ge, greatest-le}
+use Rattle.endian.proofs.Below.{and-left, and-right, all-at, all-of, all-cong, greatest-at, greatest-ge, greatest-le}
 use Rattle.endian.proofs.Signed.{InRange, within-natural, sameZ-eq, sameZ-refl}
-use Rattle.layout.specs.Limits.{minBlocksize, maxBlocksize, maxSize, maxRank, powerOfTwo, blocksizeRule, ranksRule, sizesRule, allDifferent}
+use Rattle.layout.specs.Limits.{maxTasks, minBlocksize, maxBlocksize, maxSize, maxRank, powerOfTwo, tasksRule, blocksizeRule, ranksRule, sizesRule, allDifferent}
 use Rattle.meta.specs.Meta2.{valueIndex, unused, valueRule, valuesRule, countsRule}
 
 -- ---- blocksize, ranks and sizes
@@ -20,6 +20,10 @@ use Rattle.meta.specs.Meta2.{valueIndex, unused, valueRule, valuesRule, 
 pub blocksize-natural : (z : ℤ) → blocksizeRule z ≡ true → InRange minBlocksize maxBlocksize z
 unfolding blocksizeRule
 blocksize-natural z e = within-natural minBlocksize maxBlocksize z (and-left _ (powerOfTwo (natural z)) e)
+
+pub tasks-natural : (z : ℤ) → tasksRule z ≡ true → InRange 1 maxTasks z
+unfolding tasksRule
+tasks-natural z e = within-natural 1 maxTasks z e
 
 module _ (n : ℕ) (rank : ℕ → ℤ) where
   ranks-apart : ranksRule n rank ≡ true → (i j : ℕ) → j < i → i < n → rank j ≡ rank i → ⊥
@@ -83,6 +87,18 @@ module _ (n m : ℕ) (count : ℕ → ℤ) where
 
 pub valueIndex-lt : (n m k i : ℕ) → i < n → k < m → valueIndex n k i < n * m
 valueIndex-lt n m k i l h = omega (arith, mul-le-mul-right {m = suc k} {n = m} n h)
+
+-- the rule looks at what the n tasks have, and at n·m values
+pub values-agree : (n m : ℕ) (holds holds′ count count′ : ℕ → ℕ) (value value′ : ℕ → ℤ)
+    → ((i : ℕ) → i < n → holds i ≡ holds′ i) → ((i : ℕ) → i < n → count i ≡ count′ i) → ((j : ℕ) → j < n * m → value j ≡ value′ j)
+    → valuesRule n m holds count value ≡ valuesRule n m holds′ count′ value′
+unfolding valuesRule
+values-agree n m holds holds′ count count′ value value′ sizes counts values =
+    all-cong _ _ m
+    (λ k h.
+    all-cong (λ i. valueRule (ltb k (count i)) (holds i) (value (valueIndex n k i)))
+    (λ i. valueRule (ltb k (count′ i)) (holds′ i) (value′ (valueIndex n k i))) n
+    (λ i l. rw (sizes i l, counts i l, values (valueIndex n k i) (valueIndex-lt n m k i l h))))
 
 module _ (n m : ℕ) (holds count : ℕ → ℕ) (value : ℕ → ℤ) where
   value-at : valuesRule n m holds count value ≡ true → (i k : ℕ) → i < n → k < m

@@ -8,7 +8,7 @@ use Rattle.endian.specs.Below.{joinBelow}
 use Rattle.endian.specs.Signed.{signedAt, signedDigits}
 use Rattle.layout.specs.Areas.{meta1End, dataStart}
 use Rattle.meta.specs.declared.head.Head.{Head}
-use Rattle.meta.specs.Heads.{entry, isBig}
+use Rattle.meta.specs.Heads.{isBig}
 
 -- "`sion` in ASCII"
 abbrev pub mark : List ℕ
@@ -77,7 +77,7 @@ module _ (big : Bool) (image : List ℕ) where
   abbrev pub startField : ℕ → ℤ
   startField n = signedAt big 8 image (lastAt n + 4)
 
--- ---- META1 as bytes, of a record's head
+-- ---- META1 as bytes, of a record
 
 -- the prefix "followed by zeros"
 abbrev pub padded : List ℕ → List ℕ
@@ -87,9 +87,9 @@ padded prefix = prefix ++ replicate (prefixLength - length prefix) 0
 unfoldable pub lastFields : Bool → ℕ → ℕ → List ℕ
 lastFields big maxchunks start = signedDigits big 4 (pos maxchunks) ++ signedDigits big 8 (pos start)
 
--- all before them, field by field
-abbrev pub frontFields : Head → List ℕ → List (List ℕ)
-frontFields h prefix =
+-- all before them, field by field, of a head and the ranks and sizes of its tasks
+abbrev pub frontFields : Head → (ℕ → ℕ) → (ℕ → ℕ) → List ℕ → List (List ℕ)
+frontFields h rank size prefix =
     let big = isBig h in
     mark
     ∷ signedDigits big 4 (pos orderNumber)
@@ -103,16 +103,17 @@ frontFields h prefix =
     ∷ signedDigits big 8 (pos 0)
     ∷ signedDigits big 8 (pos 0)
     ∷ padded prefix
-    ∷ joinBelow (h .n) (λ i. signedDigits big 8 (pos (entry (h .ranks) i)))
-    ∷ joinBelow (h .n) (λ i. signedDigits big 8 (pos (entry (h .sizes) i)))
+    ∷ joinBelow (h .n) (λ i. signedDigits big 8 (pos (rank i)))
+    ∷ joinBelow (h .n) (λ i. signedDigits big 8 (pos (size i)))
     ∷ []
 
-unfoldable pub meta1Front : Head → List ℕ → List ℕ
-meta1Front h prefix = flatten (frontFields h prefix)
+module _ (h : Head) (rank size : ℕ → ℕ) (prefix : List ℕ) where
+  unfoldable pub meta1Front : List ℕ
+  meta1Front = flatten (frontFields h rank size prefix)
 
-unfoldable pub meta1 : Head → List ℕ → ℕ → ℕ → List ℕ
-meta1 h prefix maxchunks start = meta1Front h prefix ++ lastFields (isBig h) maxchunks start
+  unfoldable pub meta1 : ℕ → ℕ → List ℕ
+  meta1 maxchunks start = meta1Front ++ lastFields (isBig h) maxchunks start
 
--- what opening writes: "META1 and zeros up to D"
-unfoldable pub openingBytes : Head → List ℕ → List ℕ
-openingBytes h prefix = meta1 h prefix 0 0 ++ replicate (dataStart (h .blocksize) (h .n) - meta1End (h .n)) 0
+  -- what opening writes: "META1 and zeros up to D"
+  unfoldable pub openingBytes : List ℕ
+  openingBytes = meta1 0 0 ++ replicate (dataStart (h .blocksize) (h .n) - meta1End (h .n)) 0

@@ -1,16 +1,22 @@
-// META1, the first metadata block, judged from an image's first bytes and the image's whole length.
+// META1, the first metadata block, judged from an image's first bytes and the image's whole length: first the fields that every META1 has at the
+// same place, then the lists and the last two fields.
 ghost use mathlib.Core.Path.{_≡_};
+ghost use mathlib.Core.Bool.{false};
 ghost use Prim.Native.Nat.{_+_, _*_, _<_, _≤_, _^_};
 ghost use lib.ListN.{length};
+ghost use Rattle.endian.specs.Below.{listBelow};
 ghost use Rattle.endian.specs.Number.{numberAt};
 ghost use Rattle.endian.specs.Signed.{signedAt};
-ghost use Rattle.layout.specs.Limits.{maxTasks};
+ghost use Rattle.endian.specs.Splice.{splice};
 ghost use Rattle.layout.specs.Areas.{meta1End};
 ghost use Rattle.meta.specs.declared.head.Head.{Head};
-ghost use Rattle.meta.specs.declared.first.First.{First};
+ghost use Rattle.meta.specs.declared.first.Start.{Start};
+ghost use Rattle.meta.specs.declared.first.Fixed.{Fixed};
+ghost use Rattle.meta.specs.declared.first.Last.{Last};
 ghost use Rattle.meta.specs.Refusals.{firstFailing};
-ghost use Rattle.meta.specs.Heads.{filled};
-ghost use Rattle.meta.specs.Judge.{is, Covers, markedIn, bigIn, orderedIn, headIn, headRaw, startTests, fieldTests, fixedTests, listTests, noFirst, firstOf};
+ghost use Rattle.meta.specs.Heads.{noHead, noLists};
+ghost use Rattle.meta.specs.Judge.{is, Covers, FieldsRead, HeadRead, ListsPassed, markedIn, bigIn, orderedIn, listsRead, fieldTests, startGives, fixedGives, restGives};
+use crate::field;
 use crate::head;
 use crate::head::Head;
 use crate::refusal;
@@ -18,47 +24,24 @@ use endian::read;
 use layout::limit;
 use layout::limit::MAX_TASKS;
 
-// What META1 gives: a refusal and zeros, or 0, the head, maxchunks and META2's start.
-pub struct First {
+// What the first tests give: a refusal, or 0 and whether the byte order is big.
+pub struct Start {
     pub refusal: u32,
-    pub maxchunks: u32,
-    pub start: u64,
+    pub big: bool,
+}
+
+// What the fixed fields give: a refusal and zeros, or 0 and the head.
+pub struct Fixed {
+    pub refusal: u32,
     pub head: Head,
 }
 
-pub const MARK: [u8; 4] = *b"sion";
-
-// Where the fields stand that every META1 has at the same place, and the one value that three of them have.
-pub const ORDER_AT: usize = 4;
-
-pub const VERSION_AT: usize = 8;
-
-pub const PATCH_AT: usize = 12;
-
-pub const FORMAT_AT: usize = 16;
-
-pub const BLOCKSIZE_AT: usize = 20;
-
-pub const TASKS_AT: usize = 24;
-
-pub const FILES_AT: usize = 28;
-
-pub const FILE_NUMBER_AT: usize = 32;
-
-pub const FLAGS_AT: usize = 36;
-
-pub const PREFIX_AT: usize = 52;
-
-pub const RANKS_AT: usize = 1076;
-
-pub const FORMAT: u32 = 3;
-
-pub const FILES: u32 = 1;
-
-pub const FILE_NUMBER: u32 = 0;
-
-// The bytes before the ranks.
-const FIXED: u64 = 1076;
+// What the rest of META1 gives beside the lists: a refusal and zeros, or 0, maxchunks and META2's start.
+pub struct Last {
+    pub refusal: u32,
+    pub maxchunks: u32,
+    pub start: u64,
+}
 
 fn has_mark(xs: &[u8]) -> bool
     requires { ⌜ 4 ≤ length (now xs) ⌝ }
@@ -66,7 +49,7 @@ fn has_mark(xs: &[u8]) -> bool
 {
     let mut i = 0;
     while i < 4 {
-        if xs[i] != MARK[i] {
+        if xs[i] != field::MARK[i] {
             return false;
         }
         i += 1;
@@ -86,61 +69,71 @@ fn is_big(xs: &[u8]) -> bool
     requires { ⌜ 8 ≤ length (now xs) ⌝ }
     ensures { λ r. ⌜ r ≡ bigIn (now (xs .entry)) ⌝ }
 {
-    field_is(xs, ORDER_AT, true, 1)
+    field_is(xs, field::ORDER_AT, true, field::ORDER)
 }
 
-fn has_order(xs: &[u8]) -> bool
-    requires { ⌜ 8 ≤ length (now xs) ⌝ }
+// Whether the order number is 1 in one of the two orders, where `big` says whether it is in the big one.
+fn has_order(xs: &[u8], big: bool) -> bool
+    requires { ⌜ (8 ≤ length (now xs)) × (big ≡ bigIn (now xs)) ⌝ }
     ensures { λ r. ⌜ r ≡ orderedIn (now (xs .entry)) ⌝ }
 {
-    if field_is(xs, ORDER_AT, false, 1) {
+    if big {
         return true;
     }
-    is_big(xs)
+    field_is(xs, field::ORDER_AT, false, field::ORDER)
 }
 
-// Tests 1, 2 and 3: the mark, the byte order, and that the fields before the lists are there.
-fn start_refusal(xs: &[u8], len: u64) -> u32
+fn no_start(refusal: u32) -> Start
+    ensures { λ r. ⌜ r ≡ record { refusal = refusal; big = false } ⌝ }
+{
+    Start {
+        refusal,
+        big: false,
+    }
+}
+
+// Tests 1, 2 and 3: the mark, the byte order, and that the fixed fields are there.
+fn judge_start(xs: &[u8], len: u64) -> Start
     requires { ⌜ Covers len (now xs) ⌝ }
-    ensures { λ r. ⌜ r ≡ firstFailing (startTests (now (xs .entry)) len) ⌝ }
+    ensures { λ r. ⌜ r ≡ startGives (now (xs .entry)) len ⌝ }
 {
     if len < 4 {
-        return refusal::NO_MARK;
+        return no_start(refusal::NO_MARK);
     }
     if !has_mark(xs) {
-        return refusal::NO_MARK;
+        return no_start(refusal::NO_MARK);
     }
     if len < 8 {
-        return refusal::NO_ORDER;
+        return no_start(refusal::NO_ORDER);
     }
-    if !has_order(xs) {
-        return refusal::NO_ORDER;
+    let big = is_big(xs);
+    if !has_order(xs, big) {
+        return no_start(refusal::NO_ORDER);
     }
-    if len < FIXED {
-        return refusal::SHORT_META1;
+    if len < field::RANKS_AT as u64 {
+        return no_start(refusal::SHORT_META1);
     }
-    0
+    Start { refusal: 0, big }
 }
 
-// Tests 4, 5, 6, 7 and again 3: the fields before the lists, and that the lists and the last two fields are there.
-fn field_refusal(xs: &[u8], len: u64, big: bool) -> u32
-    requires { ⌜ (big ≡ bigIn (now xs)) × (1076 ≤ length (now xs)) ⌝ }
+// Tests 4, 5, 6, 7 and again 3: the fixed fields, and that the lists and the last two fields are there.
+fn field_refusal(xs: &[u8], len: u64, big: bool, blocksize: u32, n: u32) -> u32
+    requires { ⌜ FieldsRead (now xs) big blocksize n ⌝ }
     ensures { λ r. ⌜ r ≡ firstFailing (fieldTests (now (xs .entry)) len) ⌝ }
 {
-    if !field_is(xs, FORMAT_AT, big, FORMAT) {
+    if !field_is(xs, field::FORMAT_AT, big, field::FORMAT) {
         return refusal::BAD_FORMAT;
     }
-    if !limit::blocksize_ok(read::get_u32(xs, BLOCKSIZE_AT, big)) {
+    if !limit::blocksize_ok(blocksize) {
         return refusal::BAD_BLOCKSIZE;
     }
-    let n = read::get_u32(xs, TASKS_AT, big);
     if !limit::tasks_ok(n) {
         return refusal::BAD_TASKS;
     }
-    if !field_is(xs, FILES_AT, big, FILES) {
+    if !field_is(xs, field::FILES_AT, big, field::FILES) {
         return refusal::BAD_FILES;
     }
-    if !field_is(xs, FILE_NUMBER_AT, big, FILE_NUMBER) {
+    if !field_is(xs, field::FILE_NUMBER_AT, big, field::FILE_NUMBER) {
         return refusal::BAD_FILES;
     }
     if len < layout::meta1_end(n) {
@@ -149,113 +142,120 @@ fn field_refusal(xs: &[u8], len: u64, big: bool) -> u32
     0
 }
 
-// n numbers of 8 bytes, as the entries of a record's list.
-pub fn read_list(xs: &[u8], at: usize, n: usize, big: bool) -> [u64; MAX_TASKS]
-    requires { ⌜ (n ≤ maxTasks) × (at + 8 * n ≤ length (now xs)) ⌝ }
-    ensures { λ r. ⌜ r ≡ filled n (λ i. numberAt big 8 (now (xs .entry)) (at + 8 * i)) ⌝ }
+fn no_fixed(refusal: u32) -> Fixed
+    ensures { λ r. ⌜ r ≡ record { refusal = refusal; head = noHead } ⌝ }
 {
-    let mut values = [0; MAX_TASKS];
+    let head = head::no_head();
+    Fixed { refusal, head }
+}
+
+// Tests 1 to 7 and both of 3, of as many of the first bytes as META1 can have, or of all.
+pub fn judge_fixed(xs: &[u8], len: u64) -> Fixed
+    requires { ⌜ Covers len (now xs) ⌝ }
+    ensures { λ r. ⌜ r ≡ fixedGives (now (xs .entry)) len ⌝ }
+{
+    let start = judge_start(xs, len);
+    if start.refusal != 0 {
+        return no_fixed(start.refusal);
+    }
+    let big = start.big;
+    let blocksize = read::get_u32(xs, field::BLOCKSIZE_AT, big);
+    let n = read::get_u32(xs, field::TASKS_AT, big);
+    let refusal = field_refusal(xs, len, big, blocksize, n);
+    if refusal != 0 {
+        return no_fixed(refusal);
+    }
+    let order = big as u32;
+    let version = read::get_i32(xs, field::VERSION_AT, big);
+    let patch = read::get_i32(xs, field::PATCH_AT, big);
+    Fixed {
+        refusal: 0,
+        head: Head {
+            order,
+            version,
+            patch,
+            blocksize,
+            n,
+        },
+    }
+}
+
+// n numbers of 8 bytes, into the lists from `at` on.
+pub fn read_stripe(lists: &mut [u64], at: usize, xs: &[u8], from: usize, n: usize, big: bool)
+    requires { ⌜ (at + n ≤ length (now lists)) × (from + 8 * n ≤ length (now xs)) ⌝ }
+    ensures { λ _. ⌜ now (lists .exit) ≡ splice (now (lists .entry)) at (listBelow n (λ i. numberAt big 8 (now (xs .entry)) (from + 8 * i))) ⌝ }
+{
     let mut i = 0;
     while i < n {
-        values[i] = read::get_u64(xs, at + 8 * i, big);
+        lists[at + i] = read::get_u64(xs, from + 8 * i, big);
         i += 1;
     }
-    values
 }
 
-// The head as its fields stand, before ranks and sizes are judged.
-fn read_head(xs: &[u8], big: bool, n: u32) -> Head
-    requires { ⌜ (n ≤ maxTasks) × (meta1End n ≤ length (now xs)) ⌝ }
-    ensures { λ r. ⌜ r ≡ headRaw (now (xs .entry)) big n ⌝ }
+fn no_last(refusal: u32) -> Last
+    ensures { λ r. ⌜ r ≡ record { refusal = refusal; maxchunks = 0; start = 0 } ⌝ }
 {
-    let order = big as u32;
-    let version = read::get_i32(xs, VERSION_AT, big);
-    let patch = read::get_i32(xs, PATCH_AT, big);
-    let blocksize = read::get_u32(xs, BLOCKSIZE_AT, big);
-    let ranks = read_list(xs, RANKS_AT, n as usize, big);
-    let sizes = read_list(xs, RANKS_AT + 8 * n as usize, n as usize, big);
-    Head {
-        order,
-        version,
-        patch,
-        blocksize,
-        n,
-        ranks,
-        sizes,
-    }
-}
-
-fn refused(refusal: u32) -> First
-    ensures { λ r. ⌜ r ≡ noFirst refusal ⌝ }
-{
-    First {
+    Last {
         refusal,
         maxchunks: 0,
         start: 0,
-        head: head::no_head(),
     }
 }
 
-// Tests 10, 11 and 12: the last two fields, where the earlier tests passed and gave this head.
-fn judge_last(xs: &[u8], len: u64, big: bool, head: Head) -> First
-    requires { ⌜ Covers len (now xs) × (big ≡ bigIn (now xs)) ⌝ }
-    requires { ⌜ (firstFailing (fixedTests (now xs) len) ≡ 0) × (firstFailing (listTests (now xs)) ≡ 0) ⌝ }
-    requires { ⌜ head ≡ headIn (now xs) ⌝ }
-    ensures { λ r. ⌜ r ≡ firstOf (now (xs .entry)) len ⌝ }
+// Tests 10, 11 and 12: the last two fields, where 8 and 9 passed.
+fn judge_last(xs: &[u8], len: u64, h: Head, sizes: &[u64]) -> Last
+    requires { ⌜ ListsPassed (now xs) len h (now sizes) ⌝ }
+    ensures { λ r. ⌜ r ≡ restGives (now (xs .entry)) len ⌝ }
 {
-    let at = RANKS_AT + 16 * head.n as usize;
+    let big = h.order == 1;
+    let at = field::last_at(h.n as usize);
     let maxchunks = read::get_u32(xs, at, big);
     let start = read::get_u64(xs, at + 4, big);
     if start == 0 {
-        return refused(refusal::NOT_CLOSED);
+        return no_last(refusal::NOT_CLOSED);
     }
     if !limit::maxchunks_ok(maxchunks) {
-        return refused(refusal::BAD_MAXCHUNKS);
+        return no_last(refusal::BAD_MAXCHUNKS);
     }
-    let place = layout::meta2_start(&head.sizes, head.n, head.blocksize, maxchunks);
+    let place = layout::meta2_start(sizes, h.n, h.blocksize, maxchunks);
     if start != place {
-        return refused(refusal::BAD_META2_PLACE);
+        return no_last(refusal::BAD_META2_PLACE);
     }
-    if len < place + layout::meta2_length(head.n, maxchunks) {
-        return refused(refusal::BAD_META2_PLACE);
+    if len < place + layout::meta2_length(h.n, maxchunks) {
+        return no_last(refusal::BAD_META2_PLACE);
     }
-    First {
+    Last {
         refusal: 0,
         maxchunks,
         start,
-        head,
     }
 }
 
-// Tests 8 to 12: the lists, then the last two fields.
-fn judge_rest(xs: &[u8], len: u64, big: bool) -> First
-    requires { ⌜ Covers len (now xs) × (big ≡ bigIn (now xs)) ⌝ }
-    requires { ⌜ firstFailing (fixedTests (now xs) len) ≡ 0 ⌝ }
-    ensures { λ r. ⌜ r ≡ firstOf (now (xs .entry)) len ⌝ }
+// Tests 8 to 12, of ranks and sizes that were read.
+fn judge_read(xs: &[u8], len: u64, h: Head, lists: &[u64]) -> Last
+    requires { ⌜ HeadRead (now xs) len h × (now lists ≡ listsRead (now xs) h) ⌝ }
+    ensures { λ r. ⌜ r ≡ restGives (now (xs .entry)) len ⌝ }
 {
-    let n = read::get_u32(xs, TASKS_AT, big);
-    let head = read_head(xs, big, n);
-    if !limit::ranks_ok(&head.ranks, n as usize) {
-        return refused(refusal::BAD_RANK);
+    let n = h.n as usize;
+    if !limit::ranks_ok(&lists[..head::SIZES], n) {
+        return no_last(refusal::BAD_RANK);
     }
-    if !limit::sizes_ok(&head.sizes, n as usize) {
-        return refused(refusal::BAD_SIZE);
+    let sizes = &lists[head::SIZES..head::COUNTS];
+    if !limit::sizes_ok(sizes, n) {
+        return no_last(refusal::BAD_SIZE);
     }
-    judge_last(xs, len, big, head)
+    judge_last(xs, len, h, sizes)
 }
 
-pub fn judge(xs: &[u8], len: u64) -> First
-    requires { ⌜ Covers len (now xs) ⌝ }
-    ensures { λ r. ⌜ r ≡ firstOf (now (xs .entry)) len ⌝ }
+// Tests 8 to 12, where the fixed fields passed and gave this head: ranks and sizes are put into lists of zeros.
+pub fn judge_lists(xs: &[u8], len: u64, h: Head, lists: &mut [u64]) -> Last
+    requires { ⌜ HeadRead (now xs) len h × (now lists ≡ noLists) ⌝ }
+    ensures { λ r. ⌜ r ≡ restGives (now (xs .entry)) len ⌝ }
+    ensures { λ _. ⌜ now (lists .exit) ≡ listsRead (now (xs .entry)) h ⌝ }
 {
-    let start = start_refusal(xs, len);
-    if start != 0 {
-        return refused(start);
-    }
-    let big = is_big(xs);
-    let fields = field_refusal(xs, len, big);
-    if fields != 0 {
-        return refused(fields);
-    }
-    judge_rest(xs, len, big)
+    let big = h.order == 1;
+    let n = h.n as usize;
+    read_stripe(lists, 0, xs, field::RANKS_AT, n, big);
+    read_stripe(lists, head::SIZES, xs, field::sizes_at(n), n, big);
+    judge_read(xs, len, h, lists)
 }

@@ -1,12 +1,14 @@
-// The rules for the counts of a record and for its head.
+// The rules for the counts of a record and for its head, ranks and sizes.
 ghost use mathlib.Core.Path.{_≡_};
 ghost use Prim.Native.Nat.{_≤_};
-ghost use lib.IntN.{ℤ, pos};
+ghost use lib.IntN.{pos};
 ghost use lib.ListN.{length, getD};
 ghost use Rattle.endian.specs.Below.{greatestBelow};
-ghost use Rattle.layout.specs.Limits.{maxTasks};
+ghost use Rattle.meta.specs.declared.head.Head.{Head};
 ghost use Rattle.meta.specs.Meta2.{countsRule};
-ghost use Rattle.meta.specs.Heads.{headWith, headSound};
+ghost use Rattle.meta.specs.Heads.{allLists, headSound};
+use crate::head;
+use crate::head::Head;
 use layout::limit;
 
 // The greatest of the first n, 0 where n is 0.
@@ -36,22 +38,23 @@ pub fn counts_ok(counts: &[u64], n: usize, maxchunks: u32) -> bool
     greatest(counts, n) == maxchunks as u64
 }
 
-// Whether the fields of a record's head keep the rules, whatever they hold; the two version numbers may be any.
-pub fn head_ok<'a>(order: u32, blocksize: u32, n: u32, ranks: &'a [u64], sizes: &'a [u64]) -> bool
-    requires { ⌜ (maxTasks ≤ length (now ranks)) × (maxTasks ≤ length (now sizes)) ⌝ }
-    ensures { λ r. ⌜ ((version patch : ℤ) → r ≡ headSound (headWith order version patch blocksize n (now (ranks .entry)) (now (sizes .entry)))) ⌝ }
+// Whether the head, the ranks and the sizes of a record keep the rules, whatever they hold; the two version numbers may be any.
+pub fn head_ok(h: Head, lists: &[u64]) -> bool
+    requires { ⌜ length (now lists) ≡ allLists ⌝ }
+    ensures { λ r. ⌜ r ≡ headSound h (now (lists .entry)) ⌝ }
 {
-    if 1 < order {
+    if 1 < h.order {
         return false;
     }
-    if !limit::blocksize_ok(blocksize) {
+    if !limit::blocksize_ok(h.blocksize) {
         return false;
     }
-    if !limit::tasks_ok(n) {
+    if !limit::tasks_ok(h.n) {
         return false;
     }
-    if !limit::ranks_ok(ranks, n as usize) {
+    let n = h.n as usize;
+    if !limit::ranks_ok(&lists[..head::SIZES], n) {
         return false;
     }
-    limit::sizes_ok(sizes, n as usize)
+    limit::sizes_ok(&lists[head::SIZES..head::COUNTS], n)
 }

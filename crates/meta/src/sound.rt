@@ -1,30 +1,29 @@
 // Tests 17, 18 and 19: what is asked of a record, its image and its table at every call, whatever they hold.
 ghost use mathlib.Core.Path.{_≡_};
 ghost use mathlib.Core.Bool.{true};
-ghost use mathlib.Core.List.{List};
-ghost use Prim.Native.Nat.{ℕ, _≤_};
-ghost use lib.IntN.{ℤ};
+ghost use Prim.Native.Nat.{_≤_};
 ghost use lib.ListN.{length};
 ghost use Rattle.layout.specs.Limits.{maxBlocks, Sound};
+ghost use Rattle.meta.specs.declared.head.Head.{Head};
 ghost use Rattle.meta.specs.Refusals.{firstFailing};
-ghost use Rattle.meta.specs.Heads.{headWith, recordTests};
+ghost use Rattle.meta.specs.Heads.{allLists, sizesOf, recordTests};
+use crate::head;
+use crate::head::Head;
 use crate::refusal;
 use crate::second;
 
-// Of a record for m chunks, of which 17 has said whether it is sound: what is left to test looks at no other field of its head.
-pub fn record_refusal<'a>(
+// Tests 17 to 19 of a record for m chunks; `sound` is the result of the soundness check.
+pub fn record_refusal(
     closed: u32,
     sound: bool,
-    blocksize: u32,
-    n: u32,
-    sizes: &'a [u64],
+    h: Head,
+    lists: &[u64],
     m: u32,
-    counts: &'a [u64],
     image: &[u8],
     table: &[i64],
 ) -> u32
-    requires { ⌜ (sound ≡ true → Sound blocksize n (now sizes) × (m ≤ maxBlocks) × (n ≤ length (now counts))) ⌝ }
-    ensures { λ r. ⌜ ((order : ℕ) → (version patch : ℤ) → (ranks : List ℕ) → r ≡ firstFailing (recordTests closed sound (headWith order version patch blocksize n ranks (now (sizes .entry))) m (now (counts .entry)) (now (image .entry)) (now (table .entry)))) ⌝ }
+    requires { ⌜ (length (now lists) ≡ allLists) × (sound ≡ true → Sound (h .blocksize) (h .n) (sizesOf (now lists)) × (m ≤ maxBlocks)) ⌝ }
+    ensures { λ r. ⌜ r ≡ firstFailing (recordTests closed sound h (now (lists .entry)) m (now (image .entry)) (now (table .entry))) ⌝ }
 {
     if closed != 0 {
         return refusal::BAD_RECORD;
@@ -32,13 +31,16 @@ pub fn record_refusal<'a>(
     if !sound {
         return refusal::BAD_RECORD;
     }
-    if (image.len() as u64) < layout::meta2_end(sizes, n, blocksize, m) {
+    let sizes = &lists[head::SIZES..head::COUNTS];
+    if (image.len() as u64) < layout::meta2_end(sizes, h.n, h.blocksize, m) {
         return refusal::TOO_SHORT;
     }
-    if table.len() < n as usize * m as usize {
+    let n = h.n as usize;
+    if table.len() < n * m as usize {
         return refusal::TOO_SHORT;
     }
-    if !second::cells_ok(table, n as usize, blocksize, sizes, counts, m) {
+    let counts = &lists[head::COUNTS..head::LISTS];
+    if !second::cells_ok(table, n, h.blocksize, sizes, counts, m) {
         return refusal::CELLS_DISAGREE;
     }
     0

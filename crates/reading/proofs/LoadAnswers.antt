@@ -1,150 +1,304 @@
 -- What a load answers, from what the code finds as it goes through its tests. Assumes nothing.
-use mathlib.Core.Path.{_≡_, ap, ap₂, sym, subst, _∙_}
-use mathlib.Core.Bool.{true}
-use mathlib.Core.List.{List}
+use mathlib.Core.Path.{_≡_, refl, ap, ap₂, sym, _∙_}
+use mathlib.Core.Bool.{Bool, true, not, _&&_}
+use mathlib.Core.List.{List, [], _∷_, _++_}
 use mathlib.Core.Logic.{⊎-elim}
 use Prim.Native.Nat.{ℕ, _+_, _-_, _*_, _<_, _≤_}
 use native.Mathlib.Nat.{eq-zero-or-pos}
 use native.Mathlib.Omega.{arith}
 use borrow.Author.Tests.{lt-ltb, le-ltb}
-use lib.IntN.{ℤ}
+use lib.IntN.{ℤ, pos}
 use lib.ListN.{length, take, drop, length-drop}
 use lib.Seq.{length-take-le}
-use Rattle.endian.specs.Below.{listBelow}
+use Rattle.endian.specs.Number.{numberAt}
+use Rattle.endian.specs.Signed.{signBit, within}
 use Rattle.endian.specs.Splice.{splice}
+use Rattle.endian.proofs.Below.{and-left}
 use Rattle.endian.proofs.Signed.{within-natural}
-use Rattle.layout.specs.Limits.{maxBlocks, maxchunksRule, Sound}
+use Rattle.layout.specs.Limits.{maxTasks, maxSize, maxBlocks, blocksizeRule, maxchunksRule, Sound}
 use Rattle.layout.specs.Areas.{meta2Length, meta2End}
 use Rattle.meta.specs.declared.head.Head.{Head}
-use Rattle.meta.specs.declared.first.First.{First}
-use Rattle.meta.specs.declared.second.Second.{Second}
-use Rattle.meta.specs.Refusals.{firstFailing}
-use Rattle.meta.specs.Meta1.{maxchunksField}
-use Rattle.meta.specs.Meta2.{valueField}
-use Rattle.meta.specs.Heads.{isBig, meta2At, endAt, headOf}
-use Rattle.meta.specs.Judge.{bigIn, tasksIn, maxchunksIn, headIn, meta1Tests, countsIn, valuesIn, meta2Tests, firstOf, secondOf}
-use Rattle.meta.proofs.Refusals.{first-passes, first-fails, when-accepted, when-refused}
-use Rattle.meta.proofs.Accepting.{meta1-numbered, meta1-holds}
-use Rattle.meta.proofs.Answers.{accepted-sound, accepted-is, first-number, second-is, second-number}
+use Rattle.meta.specs.declared.first.Fixed.{Fixed}
+use Rattle.meta.specs.declared.first.Last.{Last}
+use Rattle.meta.specs.Refusals.{test, firstFailing}
+use Rattle.meta.specs.Meta1.{maxchunksField, sizeField}
+use Rattle.meta.specs.Meta2.{meta2Part, countField, valueField, countsRule}
+use Rattle.meta.specs.Heads.{sizesOf, sizeOf, listsOf, filled, noLists, isBig, holds, meta2At, endAt}
+use Rattle.meta.specs.Judge.{bigIn, tasksIn, maxchunksIn, headIn, rankIn, sizeIn, meta2In, fixedTests, restTests, meta1Tests, listTests, lastTests}
+use Rattle.meta.specs.Judge.{fixedGives, restGives, listsRead, HeadRead, Meta2There, countIn, valuesIn, meta2Tests, withCounts}
+use Rattle.meta.proofs.Refusals.{first-passes, first-fails, both-pass, when-accepted, when-refused, number-is}
+use Rattle.meta.proofs.Rules.{blocksize-natural, tasks-natural, sizes-within, sizes-hold, values-agree}
+use Rattle.meta.proofs.Unsigned.{all-unsigned, natural-unsigned}
+use Rattle.meta.proofs.Filled.{filled-cong}
+use Rattle.meta.proofs.Heads.{holds-agree, meta2At-agree, endAt-agree}
+use Rattle.meta.proofs.Stripes.{length-lists, length-sizes, size-made, counts-put}
+use Rattle.meta.proofs.Accepting.{meta1-numbered, meta1-holds, meta2-holds}
+use Rattle.meta.proofs.Answers.{fixed-numbered, fixed-number, fixed-head, lists-are, rest-number, rest-is}
+use Rattle.reading.specs.declared.record.LoadAnswer.{LoadAnswer}
 use Rattle.reading.specs.Records.{loadedOf, noLoaded}
-use Rattle.reading.specs.Load.{partIn, loadedIn, loadRefusal, loadAnswer, loadTable}
+use Rattle.reading.specs.Load.{meta2Bytes, loadedIn, listsIn, loadRefusal, checkAnswer, loadTable, Fillable}
+use Rattle.reading.proofs.LoadTests.{load-holds}
 
-module _ (image : List ℕ) where
-  -- the refusal that META1 gives
-  pub at-first : (cells r : ℕ) → (r ≡ 0 → ⊥) → firstFailing (meta1Tests image (length image)) ≡ r → loadRefusal image cells ≡ r
+some-number : {r : ℕ} → (r ≡ 0 → ⊥) → 0 < r
+some-number some = ⊎-elim (λ none. absurd (some none)) (λ l. l) (eq-zero-or-pos _)
+
+-- ---- what META1's two parts give
+
+module _ (image : List ℕ) {one : Fixed} (gives : one ≡ fixedGives image (length image)) where
+  fixed-found : firstFailing (fixedTests image (length image)) ≡ one .refusal
+  fixed-found = sym (fixed-number image (length image)) ∙ ap (λ (f : Fixed). f .refusal) (sym gives)
+
+  pub head-read : one .refusal ≡ 0 → HeadRead image (length image) (one .head)
+  head-read none =
+      let zero : firstFailing (fixedTests image (length image)) ≡ 0 = fixed-found ∙ none in
+      record {
+        covers = λ k l m. l;
+        fixed = zero;
+        head-is = ap (λ (f : Fixed). f .head) gives ∙ fixed-head image (length image) zero;
+      }
+
+module _ {image : List ℕ} {h : Head} (p : HeadRead image (length image) h) {last : Last} (gives : last ≡ restGives image (length image)) where
+  rest-found : firstFailing (restTests image (length image)) ≡ last .refusal
+  rest-found = sym (rest-number image (length image)) ∙ ap (λ (l : Last). l .refusal) (sym gives)
+
+  meta1-found : firstFailing (meta1Tests image (length image)) ≡ last .refusal
+  unfolding meta1Tests
+  meta1-found = first-passes (fixedTests image (length image)) _ (fixed-numbered image (length image)) (p .fixed) ∙ rest-found
+
+-- ---- refused, the number is handed back with a record of zeros
+
+module _ (image : List ℕ) (cells : ℕ) where
+  refused-answer : {r : ℕ} → (r ≡ 0 → ⊥) → loadRefusal image cells ≡ r
+      → record { loaded = noLoaded; lists = noLists; refusal = r } ≡ checkAnswer image cells
+  unfolding checkAnswer
+  refused-answer some e = sym (when-refused (loadRefusal image cells) _ _ (rw e (some-number some)) ∙ rw e)
+
+  at-meta1 : {r : ℕ} → (r ≡ 0 → ⊥) → firstFailing (meta1Tests image (length image)) ≡ r → loadRefusal image cells ≡ r
   unfolding loadRefusal
-  at-first cells r some e =
-      first-fails (meta1Tests image (length image)) _ (⊎-elim (λ none. absurd (some (sym e ∙ none))) (λ l. l) (eq-zero-or-pos _)) ∙ e
+  at-meta1 some e = first-fails (meta1Tests image (length image)) _ (rw e (some-number some)) ∙ e
 
-  module _ (zero : firstFailing (meta1Tests image (length image)) ≡ 0) where
-    -- 18, where the table is too short, and else what META2 gives
-    pub at-table : (cells : ℕ) → cells < tasksIn image * maxchunksIn image → loadRefusal image cells ≡ 18
-    unfolding loadRefusal firstFailing
-    at-table cells l =
-        first-passes (meta1Tests image (length image)) _ (meta1-numbered image (length image)) zero ∙ rw (lt-ltb _ _ l)
+  -- by the fixed fields of META1, and by the rest of it
+  pub refused-fixed : {one : Fixed} → one ≡ fixedGives image (length image) → (one .refusal ≡ 0 → ⊥)
+      → record { loaded = noLoaded; lists = noLists; refusal = one .refusal } ≡ checkAnswer image cells
+  unfolding meta1Tests
+  refused-fixed gives some =
+      let e = fixed-found image gives in
+      refused-answer some (at-meta1 some (first-fails (fixedTests image (length image)) _ (rw e (some-number some)) ∙ e))
 
-    at-second : (cells : ℕ) → tasksIn image * maxchunksIn image ≤ cells
-        → loadRefusal image cells ≡ firstFailing (meta2Tests (headIn image) (maxchunksIn image) (partIn image))
-    unfolding loadRefusal firstFailing
-    at-second cells l =
-        first-passes (meta1Tests image (length image)) _ (meta1-numbered image (length image)) zero ∙ rw (le-ltb _ _ l)
+  pub refused-rest : {h : Head} → HeadRead image (length image) h → {last : Last} → last ≡ restGives image (length image)
+      → (last .refusal ≡ 0 → ⊥) → record { loaded = noLoaded; lists = noLists; refusal = last .refusal } ≡ checkAnswer image cells
+  refused-rest p gives some = refused-answer some (at-meta1 some (meta1-found p gives))
 
-  -- refused, the number is handed back with a record of zeros, and the table is as it came
-  module _ (table : List ℤ) (r : ℕ) (some : r ≡ 0 → ⊥) (e : loadRefusal image (length table) ≡ r) where
-    first : 0 < loadRefusal image (length table)
-    first = ⊎-elim (λ none. absurd (some (sym e ∙ none))) (λ l. l) (eq-zero-or-pos _)
+-- ---- META1 accepted: what META2 is judged by, and where it stands
 
-    pub refused-answer : record { refusal = r; loaded = noLoaded } ≡ loadAnswer image table
-    unfolding loadAnswer
-    refused-answer = sym (when-refused _ _ _ first ∙ rw e)
+module _ (image : List ℕ) (zero : firstFailing (meta1Tests image (length image)) ≡ 0) where
+  few-tasks : tasksIn image ≤ maxTasks
+  unfolding tasksIn
+  few-tasks = tasks-natural _ (meta1-holds image (length image) zero .tasks) .2
 
-    pub refused-table : table ≡ loadTable image table
-    unfolding loadTable
-    refused-table = sym (when-refused _ _ _ first)
+  few-chunks : maxchunksIn image ≤ maxBlocks
+  unfolding maxchunksIn maxchunksRule
+  few-chunks = within-natural 0 maxBlocks (maxchunksField (bigIn image) image (tasksIn image)) (meta1-holds image (length image) zero .maxchunks) .2
 
--- ---- what META1 gave, where it was accepted: what META2 is judged by, and where it stands
-pub record Found (image : List ℕ) (one : First) : Type 0 where
+  ends : meta2In image + meta2Length (tasksIn image) (maxchunksIn image) ≤ length image
+  unfolding meta2In meta2At endAt meta2End headIn
+  ends = meta1-holds image (length image) zero .fits
+
+  size-within : (i : ℕ) → i < tasksIn image → within 1 maxSize (pos (sizeIn image i)) ≡ true
+  unfolding sizeIn
+  size-within i l =
+      let e = sizes-within (tasksIn image) (sizeField (bigIn image) image (tasksIn image)) (meta1-holds image (length image) zero .sizes) i l in
+      ap (within 1 maxSize) (sym (within-natural 1 maxSize (sizeField (bigIn image) image (tasksIn image) i) e .0)) ∙ e
+
+  -- the lists of ranks and sizes, with any counts
+  module _ (count : ℕ → ℕ) where
+    abbrev listed : List ℕ
+    listed = listsOf (tasksIn image) (rankIn image) (sizeIn image) count
+
+    size-is : (i : ℕ) → i < tasksIn image → sizeOf listed i ≡ sizeIn image i
+    size-is = size-made (tasksIn image) (rankIn image) (sizeIn image) count few-tasks
+
+    sound-sizes : Sound (headIn image .blocksize) (tasksIn image) (sizesOf listed)
+    unfolding headIn
+    sound-sizes =
+        let k = meta1-holds image (length image) zero in
+        record {
+          block = ap blocksizeRule (sym (blocksize-natural _ (k .blocksize) .0)) ∙ k .blocksize;
+          tasks = few-tasks;
+          listed = omega (arith, few-tasks, length-sizes listed (length-lists (tasksIn image) (rankIn image) (sizeIn image) count));
+          sized = sizes-hold _ _ (λ i l. rw (size-is i l) (size-within i l));
+        }
+
+-- test 13 looks at what chunks of the head's tasks hold
+meta2-agree : (h : Head) (size size′ : ℕ → ℕ) (m : ℕ) (part : List ℕ) → ((i : ℕ) → i < h .n → size i ≡ size′ i)
+    → firstFailing (meta2Tests h size m part) ≡ firstFailing (meta2Tests h size′ m part)
+unfolding meta2Tests
+meta2-agree h size size′ m part same =
+    let count = countIn h part in
+    let value = valueField (isBig h) part (h .n) in
+    ap (λ (b : Bool). firstFailing (test 13 (not (countsRule (h .n) m (countField (isBig h) part) && b)) ∷ []))
+    (values-agree (h .n) m (holds h size) (holds h size′) count count value value (holds-agree h size size′ same) (λ i l. refl) (λ j l. refl))
+
+-- the counts that are read without a sign, where test 13 passes
+counts-are : (h : Head) (size : ℕ → ℕ) (m : ℕ) (part : List ℕ) → m ≤ maxBlocks → firstFailing (meta2Tests h size m part) ≡ 0
+    → filled (h .n) (λ i. numberAt (isBig h) 8 part (8 * i)) ≡ filled (h .n) (countIn h part)
+unfolding countIn countsRule
+counts-are h size m part small zero =
+    let f : ℕ → ℕ = λ i. numberAt (isBig h) 8 part (8 * i) in
+    let range = and-left _ _ (meta2-holds h size m part zero .counts) in
+    filled-cong (h .n) f (countIn h part)
+    (natural-unsigned (signBit 8) (h .n) f f (λ i l. refl) 0 m (omega arith)
+    (all-unsigned (signBit 8) (h .n) f f (λ i l. refl) 0 m (omega arith) ∙ range))
+
+-- what the code has of META1: the head, maxchunks and META2's start, and lists with no count
+pub record Found (image : List ℕ) (h : Head) (last : Last) (lists : List ℕ) : Type 0 where
   pub zero : firstFailing (meta1Tests image (length image)) ≡ 0
-  pub head-is : one .head ≡ headIn image
-  pub maxchunks-is : one .maxchunks ≡ maxchunksIn image
-  pub sound : Sound (one .head .blocksize) (one .head .n) (one .head .sizes)
-  pub few : one .maxchunks ≤ maxBlocks
-  pub fits : one .start + meta2Length (one .head .n) (one .maxchunks) ≤ length image
-  pub cells-are : one .head .n * one .maxchunks ≡ tasksIn image * maxchunksIn image
-  pub part-is : take (meta2Length (one .head .n) (one .maxchunks)) (drop (one .start) image) ≡ partIn image
+  pub head-is : h ≡ headIn image
+  pub last-is : last ≡ record { refusal = 0; maxchunks = maxchunksIn image; start = meta2In image }
+  pub lists-is : lists ≡ listsOf (tasksIn image) (rankIn image) (sizeIn image) (λ i. 0)
 
-maxchunks-few : (image : List ℕ) → maxchunksRule (maxchunksField (bigIn image) image (tasksIn image)) ≡ true → maxchunksIn image ≤ maxBlocks
-unfolding maxchunksIn maxchunksRule
-maxchunks-few image e = within-natural 0 maxBlocks (maxchunksField (bigIn image) image (tasksIn image)) e .2
-
-pub number-found : (image : List ℕ) (one : First) → one ≡ firstOf image (length image)
-    → firstFailing (meta1Tests image (length image)) ≡ one .refusal
-number-found image one e = sym (first-number image (length image)) ∙ sym (ap (λ (f : First). f .refusal) e)
-
-pub found : (image : List ℕ) (one : First) → one ≡ firstOf image (length image) → one .refusal ≡ 0 → Found image one
-unfolding headIn headOf partIn meta2At endAt meta2End
-found image one e none =
-    let zero : firstFailing (meta1Tests image (length image)) ≡ 0 =
-    number-found image one e ∙ none in
-    let same = accepted-is image (length image) zero e in
-    let holds = meta1-holds image (length image) zero in
+pub found : {image : List ℕ} {h : Head} {last : Last} {lists : List ℕ} → HeadRead image (length image) h → last ≡ restGives image (length image)
+    → lists ≡ listsRead image h → last .refusal ≡ 0 → Found image h last lists
+unfolding restTests listTests
+found {image} {h} {last} {lists} p gives read none =
+    let rest : firstFailing (restTests image (length image)) ≡ 0 = rest-found p gives ∙ none in
+    let listed = both-pass (listTests image) (lastTests image (length image)) (omega arith) rest .0 in
     record {
-      zero = zero;
-      head-is = ap (λ (f : First). f .head) same;
-      maxchunks-is = ap (λ (f : First). f .maxchunks) same;
-      sound = subst (λ (f : First). Sound (f .head .blocksize) (f .head .n) (f .head .sizes)) (sym same) (accepted-sound image (length image) zero);
-      few = subst (λ (f : First). f .maxchunks ≤ maxBlocks) (sym same) (maxchunks-few image (holds .maxchunks));
-      fits = subst (λ (f : First). f .start + meta2Length (f .head .n) (f .maxchunks) ≤ length image) (sym same) (holds .fits);
-      cells-are = ap (λ (f : First). f .head .n * f .maxchunks) same;
-      part-is = ap (λ (f : First). take (meta2Length (f .head .n) (f .maxchunks)) (drop (f .start) image)) same;
+      zero = meta1-found p gives ∙ none;
+      head-is = p .head-is;
+      last-is = gives ∙ rest-is image (length image) rest;
+      lists-is = read ∙ lists-are p listed;
     }
 
-module _ (image : List ℕ) (one : First) (f : Found image one) (table : List ℤ) where
+module _ {image : List ℕ} {h : Head} {last : Last} {lists : List ℕ} (f : Found image h last lists) where
+  pub sound : Sound (h .blocksize) (h .n) (sizesOf lists)
+  unfolding headIn
+  sound = rw (f .head-is, f .lists-is) (sound-sizes image (f .zero) (λ i. 0))
+
+  pub few : last .maxchunks ≤ maxBlocks
+  few = rw (f .last-is) (few-chunks image (f .zero))
+
+  pub fits : last .start + meta2Length (h .n) (last .maxchunks) ≤ length image
+  unfolding headIn
+  fits = rw (f .head-is, f .last-is) (ends image (f .zero))
+
+  cells-are : h .n * last .maxchunks ≡ tasksIn image * maxchunksIn image
+  unfolding headIn
+  cells-are = ap₂ (λ (h : Head) (l : Last). h .n * l .maxchunks) (f .head-is) (f .last-is)
+
+  pub refused-table : {cells : ℕ} → cells < h .n * last .maxchunks
+      → record { loaded = noLoaded; lists = noLists; refusal = 18 } ≡ checkAnswer image cells
+  unfolding loadRefusal firstFailing
+  refused-table {cells} l =
+      refused-answer image cells (λ z. omega arith)
+      (first-passes (meta1Tests image (length image)) _ (meta1-numbered image (length image)) (f .zero)
+      ∙ rw (lt-ltb cells (tasksIn image * maxchunksIn image) (rw (sym cells-are) l)))
+
   -- META2's part as the code takes it: from its start, L bytes, to its end
-  pub part-found : (L : ℕ) → L ≡ meta2Length (one .head .n) (one .maxchunks)
-      → take (one .start + L - one .start) (drop (one .start) image) ≡ partIn image
-  part-found L e =
-      let same : one .start + L - one .start ≡ meta2Length (one .head .n) (one .maxchunks) = omega arith in
-      ap (λ (k : ℕ). take k (drop (one .start) image)) same ∙ f .part-is
+  module _ {L : ℕ} (long : L ≡ meta2Length (h .n) (last .maxchunks)) where
+    abbrev part : List ℕ
+    part = take (last .start + L - last .start) (drop (last .start) image)
 
-  pub part-long : length (partIn image) ≡ meta2Length (one .head .n) (one .maxchunks)
-  part-long =
-      ap length (sym (f .part-is))
-      ∙ length-take-le (meta2Length (one .head .n) (one .maxchunks)) (drop (one .start) image) (simp length-drop (omega (arith, f .fits)))
+    part-is : part ≡ meta2Bytes image
+    unfolding meta2Bytes headIn
+    part-is =
+        let same : last .start + L - last .start ≡ meta2Length (h .n) (last .maxchunks) = omega arith in
+        ap (λ (k : ℕ). take k (drop (last .start) image)) same
+        ∙ ap₂ (λ (h : Head) (l : Last). take (meta2Length (h .n) (l .maxchunks)) (drop (l .start) image)) (f .head-is) (f .last-is)
 
-  pub table-short : length table < one .head .n * one .maxchunks → loadRefusal image (length table) ≡ 18
-  table-short l = at-table image (f .zero) (length table) (rw (sym (f .cells-are)) l)
+    pub there : Meta2There part h (last .maxchunks) lists
+    there = record {
+      as-many = rw (f .lists-is) (length-lists (tasksIn image) (rankIn image) (sizeIn image) (λ i. 0));
+      sound = sound;
+      small = few;
+      whole =
+          omega (arith, length-take-le (last .start + L - last .start) (drop (last .start) image) (simp length-drop (omega (arith, fits))));
+    }
 
-  -- what META2 gave, judged by what META1 gave
-  module _ (room : one .head .n * one .maxchunks ≤ length table) (two : Second)
-      (e : two ≡ secondOf (one .head) (one .maxchunks) (partIn image)) where
-    numbered : firstFailing (meta2Tests (one .head) (one .maxchunks) (partIn image)) ≡ two .refusal
-    numbered = sym (second-number (one .head) (one .maxchunks) (partIn image)) ∙ sym (ap (λ (s : Second). s .refusal) e)
+    -- what META2 gave, for a table that has room
+    module _ {cells : ℕ} (room : h .n * last .maxchunks ≤ cells) {r : ℕ}
+        (judged : r ≡ firstFailing (meta2Tests h (sizeOf lists) (last .maxchunks) part)) where
+      second : firstFailing (meta2Tests (headIn image) (sizeIn image) (maxchunksIn image) (meta2Bytes image)) ≡ r
+      unfolding headIn
+      second =
+          sym
+          (judged
+          ∙ rw (part-is, f .head-is, f .last-is, f .lists-is)
+          (meta2-agree (headIn image) (sizeOf (listed image (f .zero) (λ i. 0))) (sizeIn image) (maxchunksIn image) (meta2Bytes image)
+          (size-is image (f .zero) (λ i. 0))))
 
-    pub number-second : loadRefusal image (length table) ≡ two .refusal
-    number-second =
-        at-second image (f .zero) (length table) (rw (sym (f .cells-are)) room)
-        ∙ sym (ap₂ (λ (h : Head) (m : ℕ). firstFailing (meta2Tests h m (partIn image))) (f .head-is) (f .maxchunks-is))
-        ∙ numbered
+      number : loadRefusal image cells ≡ r
+      unfolding loadRefusal firstFailing
+      number =
+          first-passes (meta1Tests image (length image)) _ (meta1-numbered image (length image)) (f .zero)
+          ∙ rw (le-ltb cells (tasksIn image * maxchunksIn image) (rw (sym cells-are) room)) second
 
-    module _ (none : two .refusal ≡ 0) where
-      counts-are : two .counts ≡ countsIn (headIn image) (maxchunksIn image) (partIn image)
-      counts-are =
-          ap (λ (s : Second). s .counts) (second-is (one .head) (one .maxchunks) (partIn image) (numbered ∙ none) e)
-          ∙ ap₂ (λ (h : Head) (m : ℕ). countsIn h m (partIn image)) (f .head-is) (f .maxchunks-is)
+      pub refused-meta2 : (r ≡ 0 → ⊥) → record { loaded = noLoaded; lists = noLists; refusal = r } ≡ checkAnswer image cells
+      refused-meta2 some = refused-answer image cells some number
 
-      pub accepted-answer : record {
-        refusal = 0;
-        loaded = loadedOf (one .head) (two .counts) (one .maxchunks) 0;
-      } ≡ loadAnswer image table
-      unfolding loadAnswer loadedIn
-      accepted-answer =
-          (λ i. record { refusal = 0; loaded = loadedOf (f .head-is i) (counts-are i) (f .maxchunks-is i) 0 })
-          ∙ sym (when-accepted (loadRefusal image (length table)) _ _ (number-second ∙ none))
+      -- accepted, the record is handed back
+      pub accepted : {counted : List ℕ} → r ≡ 0 → counted ≡ withCounts lists (h .n) (λ i. numberAt (isBig h) 8 part (8 * i))
+          → record { loaded = loadedOf h (last .maxchunks) 0; lists = counted; refusal = 0 } ≡ checkAnswer image cells
+      unfolding checkAnswer loadedIn listsIn listsOf headIn
+      accepted {counted} zero e =
+          let n = tasksIn image in
+          let ranks = filled n (rankIn image) in
+          let sizes = filled n (sizeIn image) in
+          let made : counted ≡ listsIn image =
+          e
+          ∙ rw (part-is, f .head-is, f .lists-is)
+          (counts-put n (rankIn image) (sizeIn image) (few-tasks image (f .zero)) (λ i. numberAt (isBig (headIn image)) 8 (meta2Bytes image) (8 * i))
+          ∙ ap (λ (xs : List ℕ). ranks ++ (sizes ++ xs))
+          (counts-are (headIn image) (sizeIn image) (maxchunksIn image) (meta2Bytes image) (few-chunks image (f .zero)) (second ∙ zero))) in
+          (λ i. record { loaded = loadedOf (f .head-is i) (f .last-is i .maxchunks) 0; lists = made i; refusal = 0 })
+          ∙ sym (when-accepted (loadRefusal image cells) _ _ (number ∙ zero))
 
-      pub accepted-table : splice table 0 (listBelow (one .head .n * one .maxchunks) (valueField (isBig (one .head)) (partIn image) (one .head .n)))
-          ≡ loadTable image table
-      unfolding loadTable valuesIn
-      accepted-table =
-          ap₂ (λ (h : Head) (m : ℕ). splice table 0 (valuesIn h m (partIn image))) (f .head-is) (f .maxchunks-is)
-          ∙ sym (when-accepted (loadRefusal image (length table)) _ _ (number-second ∙ none))
+-- ---- a load: the check, then the table
+
+module _ (image : List ℕ) (table : List ℤ) {answer : LoadAnswer} (checked : answer ≡ checkAnswer image (length table)) where
+  refusal-is : loadRefusal image (length table) ≡ answer .refusal
+  unfolding checkAnswer
+  refusal-is = sym (ap (λ (a : LoadAnswer). a .refusal) checked ∙ number-is _ _ _ (λ (a : LoadAnswer). a .refusal) refl refl)
+
+  pub table-kept : (answer .refusal ≡ 0 → ⊥) → table ≡ loadTable image table
+  unfolding loadTable
+  table-kept some = sym (when-refused (loadRefusal image (length table)) _ _ (rw refusal-is (some-number some)))
+
+  module _ (none : answer .refusal ≡ 0) where
+    answer-is : answer ≡ record { loaded = loadedIn image; lists = listsIn image; refusal = 0 }
+    unfolding checkAnswer
+    answer-is = checked ∙ when-accepted (loadRefusal image (length table)) _ _ (refusal-is ∙ none)
+
+    passes : firstFailing (meta1Tests image (length image)) ≡ 0
+    unfolding loadRefusal
+    passes = both-pass (meta1Tests image (length image)) _ (meta1-numbered image (length image)) (refusal-is ∙ none) .0
+
+    pub fillable : Fillable image (answer .loaded .head) (answer .lists) (answer .loaded .maxchunks) table
+    unfolding loadedIn listsIn headIn
+    fillable =
+        let count = countIn (headIn image) (meta2Bytes image) in
+        rw answer-is (record {
+          as-many = length-lists (tasksIn image) (rankIn image) (sizeIn image) count;
+          sound = sound-sizes image passes count;
+          few = few-chunks image passes;
+          image-long =
+              rw (endAt-agree (headIn image) (sizeOf (listsIn image)) (sizeIn image) (size-is image passes count) (maxchunksIn image))
+              (meta1-holds image (length image) passes .fits);
+          table-long = load-holds image (length table) (refusal-is ∙ none) .room;
+        })
+
+    pub table-filled : {filled : List ℤ}
+        → filled
+        ≡ splice table 0
+        (valuesIn (answer .loaded .head) (answer .loaded .maxchunks)
+        (meta2Part image (meta2At (answer .loaded .head) (sizeOf (answer .lists)) (answer .loaded .maxchunks)) (answer .loaded .head .n)
+        (answer .loaded .maxchunks)))
+        → filled ≡ loadTable image table
+    unfolding loadTable loadedIn listsIn headIn meta2Bytes meta2In
+    table-filled e =
+        e
+        ∙ rw (
+          answer-is,
+          meta2At-agree (headIn image) (sizeOf (listsIn image)) (sizeIn image) (size-is image passes (countIn (headIn image) (meta2Bytes image)))
+              (maxchunksIn image),
+        ) (sym (when-accepted (loadRefusal image (length table)) _ _ (refusal-is ∙ none)))

@@ -7,15 +7,15 @@ use native.Mathlib.Omega.{arith}
 use lib.ListN.{length}
 use borrow.Author.Tests.{ltb-false, le-ltb}
 use Rattle.meta.specs.Refusals.{firstFailing}
-use Rattle.meta.specs.Judge.{tasksIn, maxchunksIn, headIn, meta1Tests}
+use Rattle.meta.specs.Judge.{tasksIn, maxchunksIn, headIn, sizeIn, meta1Tests}
 use Rattle.meta.proofs.Refusals.{first-passes, both-pass, next-passes}
 use Rattle.meta.proofs.Accepting.{Meta1Holds, meta1-numbered, meta1-holds, meta1-passes, Meta2Holds, meta2-holds, meta2-passes}
-use Rattle.reading.specs.Load.{partIn, loadRefusal}
+use Rattle.reading.specs.Load.{meta2Bytes, loadRefusal}
 
 pub record Loads (image : List ℕ) (cells : ℕ) : Type 0 where
   pub first : Meta1Holds image (length image)
   pub room : tasksIn image * maxchunksIn image ≤ cells
-  pub second : Meta2Holds (headIn image) (maxchunksIn image) (partIn image)
+  pub second : Meta2Holds (headIn image) (sizeIn image) (maxchunksIn image) (meta2Bytes image)
 
 pub load-holds : (image : List ℕ) (cells : ℕ) → loadRefusal image cells ≡ 0 → Loads image cells
 unfolding loadRefusal
@@ -25,11 +25,11 @@ load-holds image cells e =
     record {
       first = meta1-holds image (length image) one;
       room = ltb-false _ _ room;
-      second = meta2-holds _ _ _ two;
+      second = meta2-holds _ _ _ _ two;
     }
 
 pub load-passes : (image : List ℕ) (cells : ℕ) → Loads image cells → loadRefusal image cells ≡ 0
 unfolding loadRefusal firstFailing
 load-passes image cells h =
     first-passes (meta1Tests image (length image)) _ (meta1-numbered image (length image)) (meta1-passes image (length image) (h .first))
-    ∙ rw (le-ltb _ _ (h .room)) (meta2-passes _ _ _ (h .second))
+    ∙ rw (le-ltb _ _ (h .room)) (meta2-passes _ _ _ _ (h .second))

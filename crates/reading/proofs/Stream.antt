@@ -1,20 +1,21 @@
 -- Laws of a stream that is copied part by part: the parts copied so far, with the next one behind them, are one part of the stream; and
 -- of a task's stream: it has the length of its total, and each of its chunks may be read. Assumes nothing.
-use mathlib.Core.Path.{_≡_, sym, ap, _∙_}
+use mathlib.Core.Path.{_≡_, refl, sym, ap, _∙_}
 use mathlib.Core.List.{List, [], _∷_, _++_}
 use Prim.Native.Nat.{ℕ, zero, suc, _+_, _-_, _<_, _≤_, min}
-use native.Mathlib.Nat.{zero-add, min-le-left, sub-add-eq}
+use native.Mathlib.Nat.{zero-add, add-zero, min-le-left, sub-add-eq}
 use native.Mathlib.Omega.{arith}
-use lib.ListN.{length, take, drop, length-append, length-take, length-drop}
+use lib.ListN.{length, take, drop, length-append, length-take, length-drop, take-append-drop}
 use lib.Seq.{length-take-le, take-nil, drop-nil}
+use Rattle.endian.specs.Below.{joinBelow}
 use Rattle.endian.specs.Splice.{splice}
 use Rattle.endian.proofs.Below.{length-joined}
 use Rattle.endian.proofs.Splice.{length-splice, splice-next}
 use Rattle.endian.proofs.Signed.{within-holds}
 use Rattle.meta.specs.Refusals.{firstFailing}
 use Rattle.meta.proofs.Refusals.{first-passes}
-use Rattle.reading.specs.declared.record.Counted.{Counted}
-use Rattle.reading.specs.Reads.{Container, readTests, used, writtenIn, chunkBytes, chunkRefusal, streamOf, totalOf}
+use Rattle.reading.specs.declared.record.ByteCount.{ByteCount}
+use Rattle.reading.specs.Reads.{Container, readTests, used, writtenIn, chunkBytes, chunkRefusal, streamOf, totalOf, ReadAllowed, ChunkAllowed}
 use Rattle.reading.proofs.Readable.{Readable, read-numbered}
 
 -- n places that are filled by x elements, and then by as many of y as they hold
@@ -87,6 +88,23 @@ module _ {ℓ} {A : Type ℓ} where
           filled = d ∙ rw (copied-same, so-far .left, so-far .filled, length-append, ← rest-sum) (filled-twice _ _ _);
         }
 
+    -- where xs is full, a part behind the stream changes nothing
+    copied-on : length xs ≤ done → (c : List A) → Copied xs (s ++ c) p ys (skip - length c) done
+    unfolding splice
+    copied-on full c =
+        let none : length ys - done ≡ 0 = omega (arith, copied-same) in
+        copied-more c ys (skip - length c) done (rw (none, add-zero, take-append-drop)) (omega (arith, copied-same)) refl
+
+  -- and so does none of the parts that are left
+  pub copied-full : (f : ℕ → List A) (k : ℕ) {xs : List A} {p : ℕ} {ys : List A} {skip done : ℕ} → Copied xs (joinBelow k f) p ys skip done
+      → length xs ≤ done → (j : ℕ) → (left : ℕ) × Copied xs (joinBelow (j + k) f) p ys left done
+  unfolding joinBelow
+  copied-full f k {skip = skip} so-far full zero = (skip, rw zero-add so-far)
+  copied-full f k so-far full (suc j) =
+      let (left, more) = copied-full f k so-far full j in
+      let next : suc j + k ≡ suc (j + k) = omega arith in
+      (left - length (f (j + k)), rw next (copied-on more full (f (j + k))))
+
 module _ (c : Container) (task : ℕ) (r : Readable c task) where
   pub chunk-length : (k : ℕ) → k < used c task → length (chunkBytes c task (k + 1)) ≡ writtenIn c task (k + 1)
   unfolding chunkBytes
@@ -96,12 +114,15 @@ module _ (c : Container) (task : ℕ) (r : Readable c task) where
   unfolding streamOf totalOf
   stream-length = length-joined _ _ (used c task) chunk-length
 
--- where the tests of every read pass, a used chunk may be read
-pub chunk-allowed : (c : Container) (task chunk : ℕ) → firstFailing (readTests c task) ≡ 0 → 1 ≤ chunk → chunk ≤ used c task
-    → chunkRefusal c task chunk ≡ 0
+-- where a task may be read, a chunk that it used may be
+pub chunk-allowed : (c : Container) (task chunk : ℕ) → ReadAllowed c task → 1 ≤ chunk → chunk ≤ used c task → ChunkAllowed c task chunk
 unfolding chunkRefusal firstFailing
-chunk-allowed c task chunk e l h = first-passes (readTests c task) _ (read-numbered c task) e ∙ rw (within-holds 1 (used c task) chunk l h)
+chunk-allowed c task chunk a l h = record {
+  as-many = a .as-many;
+  passes =
+      first-passes (readTests c task) _ (read-numbered c task) (a .passes) ∙ rw (within-holds 1 (used c task) chunk l h);
+}
 
 -- what a copying read and a total answer
-abbrev pub counted : ℕ → ℕ → Counted
+abbrev pub counted : ℕ → ℕ → ByteCount
 counted refusal bytes = record { refusal = refusal; bytes = bytes }

@@ -1,7 +1,8 @@
--- Reads on a loaded record with its image and its table (document 01, "Reads take a loaded record ..."): the part of one chunk, the
+-- Reads on a loaded record with its lists, its image and its table (document 01, "Reads take a loaded record ..."): the part of one chunk, the
 -- copying read and a task's total, each with its tests. Definitions only.
 use mathlib.Core.Bool.{cond, not}
 use mathlib.Core.List.{List, [], _∷_, _++_}
+use mathlib.Core.Path.{_≡_}
 use Prim.Native.Nat.{ℕ, _+_, _-_, min}
 use lib.Dec.{ltb, eqb}
 use lib.IntN.{ℤ, pos}
@@ -11,25 +12,26 @@ use Rattle.endian.specs.Signed.{within, natural}
 use Rattle.endian.specs.Splice.{splice}
 use Rattle.reading.specs.declared.record.Loaded.{Loaded}
 use Rattle.reading.specs.declared.record.Part.{Part}
-use Rattle.reading.specs.declared.record.Counted.{Counted}
+use Rattle.reading.specs.declared.record.ByteCount.{ByteCount}
 use Rattle.meta.specs.Refusals.{Test, test, firstFailing}
 use Rattle.meta.specs.Meta2.{valueIndex}
-use Rattle.meta.specs.Heads.{entry, cell, startOf, recordTests, isTask}
+use Rattle.meta.specs.Heads.{cell, allLists, sizeOf, countOf, startOf, recordTests, isTask}
 use Rattle.reading.specs.Records.{loadedSound}
 
--- a loaded record with its image and its table
+-- a loaded record with its lists, its image and its table
 pub record Container : Type 0 where
   pub loaded : Loaded
+  pub lists : List ℕ
   pub image : List ℕ
   pub table : List ℤ
 
-abbrev pub containerOf : Loaded → List ℕ → List ℤ → Container
-containerOf loaded image table = record { loaded = loaded; image = image; table = table }
+abbrev pub containerOf : Loaded → List ℕ → List ℕ → List ℤ → Container
+containerOf loaded lists image table = record { loaded = loaded; lists = lists; image = image; table = table }
 
 -- "17, 18, 19"
 unfoldable pub loadedTests : Container → List Test
 loadedTests c =
-    recordTests (c .loaded .closed) (loadedSound (c .loaded)) (c .loaded .head) (c .loaded .maxchunks) (c .loaded .counts) (c .image)
+    recordTests (c .loaded .closed) (loadedSound (c .loaded) (c .lists)) (c .loaded .head) (c .lists) (c .loaded .maxchunks) (c .image)
     (c .table)
 
 -- the task is counted from 1
@@ -39,7 +41,7 @@ module _ (c : Container) (task : ℕ) where
   readTests = loadedTests c ++ (test 14 (not (isTask (c .loaded .head .n) task)) ∷ [])
 
   unfoldable pub used : ℕ
-  used = entry (c .loaded .counts) (task - 1)
+  used = countOf (c .lists) (task - 1)
 
   -- the bytes that the task wrote in a chunk, counted from 1
   unfoldable pub writtenIn : ℕ → ℕ
@@ -47,7 +49,7 @@ module _ (c : Container) (task : ℕ) where
 
   -- "from chunk start for the cell's length"
   unfoldable pub chunkBytes : ℕ → List ℕ
-  chunkBytes chunk = take (writtenIn chunk) (drop (startOf (c .loaded .head) task chunk) (c .image))
+  chunkBytes chunk = take (writtenIn chunk) (drop (startOf (c .loaded .head) (sizeOf (c .lists)) task chunk) (c .image))
 
   -- ---- one chunk: "handed back as a part of the image, not copied. A refused call hands back the empty part"
 
@@ -59,11 +61,11 @@ module _ (c : Container) (task : ℕ) where
 
   -- ---- the same part as a place in the image
 
-  unfoldable pub partOf : ℕ → Part
-  partOf chunk = record { refusal = 0; start = startOf (c .loaded .head) task chunk; length = writtenIn chunk }
+  unfoldable pub chunkPlace : ℕ → Part
+  chunkPlace chunk = record { refusal = 0; start = startOf (c .loaded .head) (sizeOf (c .lists)) task chunk; length = writtenIn chunk }
 
   unfoldable pub partAnswer : ℕ → Part
-  partAnswer chunk = cond (eqb (chunkRefusal chunk) 0) (partOf chunk) (record { refusal = chunkRefusal chunk; start = 0; length = 0 })
+  partAnswer chunk = cond (eqb (chunkRefusal chunk) 0) (chunkPlace chunk) (record { refusal = chunkRefusal chunk; start = 0; length = 0 })
 
   -- ---- the whole stream and its length
 
@@ -73,7 +75,7 @@ module _ (c : Container) (task : ℕ) where
   unfoldable pub totalOf : ℕ
   totalOf = sumBelow used (λ k. writtenIn (k + 1))
 
-  unfoldable pub totalAnswer : Counted
+  unfoldable pub totalAnswer : ByteCount
   totalAnswer =
       cond (eqb (firstFailing readTests) 0) (record { refusal = 0; bytes = totalOf })
       (record { refusal = firstFailing readTests; bytes = 0 })
@@ -84,7 +86,7 @@ module _ (c : Container) (task : ℕ) where
   readRefusal p = firstFailing (readTests ++ (test 23 (ltb totalOf p) ∷ []))
 
   -- "reports the bytes copied (the smaller of output length and what follows p)"
-  unfoldable pub readAnswer : ℕ → List ℕ → Counted
+  unfoldable pub readAnswer : ℕ → List ℕ → ByteCount
   readAnswer p out =
       cond (eqb (readRefusal p) 0) (record { refusal = 0; bytes = min (length out) (totalOf - p) })
       (record { refusal = readRefusal p; bytes = 0 })
@@ -92,3 +94,15 @@ module _ (c : Container) (task : ℕ) where
   -- "and changes no output byte after them"
   unfoldable pub readOutput : ℕ → List ℕ → List ℕ
   readOutput p out = cond (eqb (readRefusal p) 0) (splice out 0 (take (length out) (drop p streamOf))) out
+
+-- ---- what is known as a container is read
+
+-- a task may be read
+pub record ReadAllowed (c : Container) (task : ℕ) : Type 0 where
+  pub as-many : length (c .lists) ≡ allLists
+  pub passes : firstFailing (readTests c task) ≡ 0
+
+-- and a chunk of it
+pub record ChunkAllowed (c : Container) (task chunk : ℕ) : Type 0 where
+  pub as-many : length (c .lists) ≡ allLists
+  pub passes : chunkRefusal c task chunk ≡ 0

@@ -4,6 +4,8 @@ mod reads;
 pub mod record;
 mod sound;
 
+pub use loading::check;
+pub use loading::fill;
 pub use loading::load;
 pub use reads::chunk;
 pub use reads::chunk_refusal;

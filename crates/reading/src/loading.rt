@@ -1,66 +1,98 @@
 // Loading: a container checked whole, its record handed back and its values put into the table.
 ghost use mathlib.Core.Path.{_≡_};
-ghost use Rattle.reading.specs.declared.record.Checked.{Checked};
+ghost use Rattle.endian.specs.Splice.{splice};
+ghost use Rattle.meta.specs.declared.head.Head.{Head};
+ghost use Rattle.meta.specs.Meta2.{meta2Part};
+ghost use Rattle.meta.specs.Heads.{sizeOf, noLists, meta2At};
+ghost use Rattle.meta.specs.Judge.{valuesIn};
+ghost use Rattle.reading.specs.declared.record.LoadAnswer.{LoadAnswer};
 ghost use Rattle.reading.specs.Records.{noLoaded};
-ghost use Rattle.reading.specs.Load.{loadAnswer, loadTable};
-use crate::record::Checked;
+ghost use Rattle.reading.specs.Load.{checkAnswer, loadAnswer, loadTable, Fillable};
+use crate::record::LoadAnswer;
 use crate::record::Loaded;
-use layout::limit::MAX_TASKS;
 use meta::first;
 use meta::head;
+use meta::head::Head;
+use meta::head::LISTS;
 use meta::refusal;
 use meta::second;
 
 // A refusal beside a record of zeros marked closed.
-fn refused(refusal: u32) -> Checked
-    ensures { λ r. ⌜ r ≡ record { refusal = refusal; loaded = noLoaded } ⌝ }
+fn refused(refusal: u32) -> LoadAnswer
+    ensures { λ r. ⌜ r ≡ record { loaded = noLoaded; lists = noLists; refusal = refusal } ⌝ }
 {
-    let counts = [0; MAX_TASKS];
     let head = head::no_head();
-    Checked {
-        refusal,
+    let lists = [0; LISTS];
+    LoadAnswer {
         loaded: Loaded {
             head,
-            counts,
             maxchunks: 0,
             closed: 1,
         },
+        lists,
+        refusal,
     }
 }
 
-// Checks an image, tests 1 to 12, 18 and 13 in the order of document 01. Accepted, the record is handed back and the first n times maxchunks
-// cells are filled.
-pub fn load(image: &[u8], table: &mut [i64]) -> Checked
-    ensures { λ r. ⌜ r ≡ loadAnswer (now (image .entry)) (now (table .entry)) ⌝ }
-    ensures { λ _. ⌜ now (table .exit) ≡ loadTable (now (image .entry)) (now (table .entry)) ⌝ }
+// Checks an image, tests 1 to 12, 18 and 13 in the order of document 01, for a table of so many cells; no table is touched.
+pub fn check(image: &[u8], cells: usize) -> LoadAnswer
+    ensures { λ r. ⌜ r ≡ checkAnswer (now (image .entry)) cells ⌝ }
 {
-    let one = first::judge(image, image.len() as u64);
+    let len = image.len() as u64;
+    let one = first::judge_fixed(image, len);
     if one.refusal != 0 {
         return refused(one.refusal);
     }
     let head = one.head;
-    let maxchunks = one.maxchunks;
-    let n = head.n as usize;
-    let cells = n * maxchunks as usize;
-    if table.len() < cells {
+    let mut lists = [0; LISTS];
+    let last = first::judge_lists(image, len, head, &mut lists);
+    if last.refusal != 0 {
+        return refused(last.refusal);
+    }
+    let maxchunks = last.maxchunks;
+    if cells < head.n as usize * maxchunks as usize {
         return refused(refusal::TOO_SHORT);
     }
-    let start = one.start as usize;
+    let start = last.start as usize;
     let end = start + layout::meta2_length(head.n, maxchunks) as usize;
-    let part = &image[start..end];
-    let two = second::judge(part, head, maxchunks);
-    if two.refusal != 0 {
-        return refused(two.refusal);
+    let refusal = second::judge(&image[start..end], head, maxchunks, &mut lists);
+    if refusal != 0 {
+        return refused(refusal);
     }
-    second::fill(table, cells, part, n, head.order == 1);
-    let counts = two.counts;
-    Checked {
-        refusal: 0,
+    LoadAnswer {
         loaded: Loaded {
             head,
-            counts,
             maxchunks,
             closed: 0,
         },
+        lists,
+        refusal: 0,
     }
+}
+
+// The values of a container that passed its tests, into the table's start.
+pub fn fill(image: &[u8], h: Head, lists: &[u64], maxchunks: u32, table: &mut [i64])
+    requires { ⌜ Fillable (now image) h (now lists) maxchunks (now table) ⌝ }
+    ensures { λ _. ⌜ now (table .exit) ≡ splice (now (table .entry)) 0 (valuesIn h maxchunks (meta2Part (now (image .entry)) (meta2At h (sizeOf (now (lists .entry))) maxchunks) (h .n) maxchunks)) ⌝ }
+{
+    let sizes = &lists[head::SIZES..head::COUNTS];
+    let start = layout::meta2_start(sizes, h.n, h.blocksize, maxchunks) as usize;
+    let end = start + layout::meta2_length(h.n, maxchunks) as usize;
+    let n = h.n as usize;
+    let cells = n * maxchunks as usize;
+    second::fill(table, cells, &image[start..end], 8 * n, h.order == 1);
+}
+
+// Checks an image. Accepted, the record is handed back and the first n times maxchunks cells are filled.
+pub fn load(image: &[u8], table: &mut [i64]) -> LoadAnswer
+    ensures { λ r. ⌜ r ≡ loadAnswer (now (image .entry)) (now (table .entry)) ⌝ }
+    ensures { λ _. ⌜ now (table .exit) ≡ loadTable (now (image .entry)) (now (table .entry)) ⌝ }
+{
+    let answer = check(image, table.len());
+    if answer.refusal != 0 {
+        return answer;
+    }
+    let loaded = answer.loaded;
+    fill(image, loaded.head, &answer.lists, loaded.maxchunks, table);
+    answer
 }

@@ -3,6 +3,7 @@
 use mathlib.Core.Path.{_≡_, refl, sym, ap, _∙_, subst, fun-ext}
 use mathlib.Core.Bool.{Bool, true, false}
 use mathlib.Core.List.{[], _∷_}
+use mathlib.Core.Logic.{⊎-elim}
 use Prim.Native.Nat.{ℕ, _+_, _*_, _-_, _/_, _%_, _≤_, _<_}
 use native.Mathlib.Omega.{arith}
 use lib.Arith.{digits-div, digits-mod}
@@ -11,10 +12,13 @@ use lib.IntN.{ℤ, pos}
 use lib.ListN.{length, set, length-set}
 use lib.Seq.{getD-set-same, getD-set-other}
 use borrow.Author.Tests.{eqb-true, eqb-false}
+use Rattle.layout.specs.Limits.{maxTasks}
 use Rattle.meta.specs.Meta2.{valueIndex}
-use Rattle.meta.specs.Heads.{entry, cell, holds}
+use Rattle.meta.specs.Heads.{entry, cell, ranksOf, sizesOf, countsOf, sizeOf, countOf, countAt, holds}
 use Rattle.meta.proofs.Rules.{valueIndex-lt}
-use Rattle.session.specs.Records.{State}
+use Rattle.meta.proofs.Records.{head-tasks, head-block, sound-agree}
+use Rattle.meta.proofs.Stripes.{length-counts, ranks-kept, sizes-kept, counts-set}
+use Rattle.session.specs.Records.{State, withCount}
 use Rattle.session.specs.Write.{Request, room, spot, writeRefusal, stored, afterWrite}
 use Rattle.session.proofs.Outcomes.{accepted-stores}
 use Rattle.room.specs.Tally.{Tally, Book, fateIn, answerTo, told, askOf}
@@ -25,7 +29,7 @@ use Rattle.room.proofs.Follows.{layout-of, CellIs, Follows, planAt, Own
 -- what is shown of a write
 abbrev pub Did : Book → State → Request → Type 0
 Did b st q =
-    Step (st .session .head) (st .session .planned) b st q × CellsKept (st .session .head) (st .session .planned) b st q
+    Step (st .session) (sizeOf (st .lists)) b st q × CellsKept (st .session) (sizeOf (st .lists)) b st q
 
 module _ {b : Book} {st : State} (f : Own b st) (q : Request) where
   -- a write that changes nothing
@@ -42,10 +46,10 @@ module _ {b : Book} {st : State} (f : Own b st) (q : Request) where
     record {
       number-is = number;
       image-is = ap (λ (x : State). x .image) e ∙ sym laid;
-      follows = rw (quiet same) (subst (λ (x : State). Follows (st .session .head) (st .session .planned) b x) (sym e) f);
+      follows = rw (quiet same) (subst (λ (x : State). Follows (st .session) (sizeOf (st .lists)) b x) (sym e) f);
       table-as-long = ap (λ (x : State). length (x .table)) e;
       other-cells = λ j l. ap (λ (x : State). cell (x .table) j) e;
-      other-counts = λ i l. ap (λ (x : State). entry (x .session .counts) i) e;
+      other-entries = λ j l. ap (λ (x : State). entry (x .lists) j) e;
     },
     λ i k l d. ap (λ (x : State). cell (x .table) (valueIndex (st .session .head .n) k i)) e,
   )
@@ -63,9 +67,21 @@ module _ {b : Book} {st : State} (f : Own b st) (q : Request) where
     unfolding stored cellAt
     table-is = rw (chunk-is, sum-is)
 
-    counts-is : stored st q .session .counts ≡ set (st .session .counts) (q .task - 1) (x .u)
+    task-few : q .task - 1 < maxTasks
+    task-few = omega (arith, head-tasks _ _ (f .sound))
+
+    lists-is : stored st q .lists ≡ withCount (st .lists) (q .task - 1) (x .u)
     unfolding stored
-    counts-is = rw chunk-is
+    lists-is = rw chunk-is
+
+    ranks-same : ranksOf (stored st q .lists) ≡ ranksOf (st .lists)
+    ranks-same = rw lists-is (ranks-kept (st .lists) (q .task - 1) (x .u))
+
+    sizes-same : sizesOf (stored st q .lists) ≡ sizesOf (st .lists)
+    sizes-same = rw lists-is (sizes-kept (st .lists) (q .task - 1) (x .u) task-few)
+
+    counts-is : countsOf (stored st q .lists) ≡ set (countsOf (st .lists)) (q .task - 1) (x .u)
+    counts-is = rw lists-is (counts-set (st .lists) (q .task - 1) (x .u) task-few)
 
     cellAt-lt : cellAt < st .session .head .n * st .session .planned
     unfolding cellAt
@@ -100,13 +116,13 @@ module _ {b : Book} {st : State} (f : Own b st) (q : Request) where
     other-tally i d = told-other (planAt st) b (askOf q) (i + 1) (λ e. d (omega arith))
 
     new-cells : (i k : ℕ) → i < st .session .head .n → k < st .session .planned
-        → CellIs (holds (st .session .head) i) (told (planAt st) b (askOf q) (i + 1)) k
+        → CellIs (holds (st .session .head) (sizeOf (st .lists)) i) (told (planAt st) b (askOf q) (i + 1)) k
         (cell (stored st q .table) (valueIndex (st .session .head .n) k i))
     unfolding room
     new-cells i k h l = go (eqb i (q .task - 1)) refl (eqb (k + 1) (x .u)) refl
       where
         go : (v : Bool) → eqb i (q .task - 1) ≡ v → (w : Bool) → eqb (k + 1) (x .u) ≡ w
-            → CellIs (holds (st .session .head) i) (told (planAt st) b (askOf q) (i + 1)) k
+            → CellIs (holds (st .session .head) (sizeOf (st .lists)) i) (told (planAt st) b (askOf q) (i + 1)) k
             (cell (stored st q .table) (valueIndex (st .session .head .n) k i))
         go false e w d = rw (other-tally i (eqb-false _ _ e), other-cell i k h (λ y. eqb-false _ _ e (y .1))) (f .cells-are i k h l)
         go true e false d =
@@ -124,42 +140,34 @@ module _ {b : Book} {st : State} (f : Own b st) (q : Request) where
             rw (here, table-is, getD-set-same (st .table) cellAt (pos (x .w)) (pos 0) there, at, task, now)
             (record { used = λ y. absurd (omega arith); last = λ _. refl; none = λ y. absurd (omega arith) })
 
-    new-counts : (i : ℕ) → i < st .session .head .n → entry (stored st q .session .counts) i ≡ told (planAt st) b (askOf q) (i + 1) .u
+    new-counts : (i : ℕ) → i < st .session .head .n → countOf (stored st q .lists) i ≡ told (planAt st) b (askOf q) (i + 1) .u
     new-counts i h = go (eqb i (q .task - 1)) refl
       where
-        go : (v : Bool) → eqb i (q .task - 1) ≡ v → entry (stored st q .session .counts) i ≡ told (planAt st) b (askOf q) (i + 1) .u
+        go : (v : Bool) → eqb i (q .task - 1) ≡ v → countOf (stored st q .lists) i ≡ told (planAt st) b (askOf q) (i + 1) .u
         go true e =
             let at : i ≡ q .task - 1 = eqb-true _ _ e in
             let task : q .task - 1 + 1 ≡ q .task = omega arith in
             rw (counts-is, at, task, now)
-            (getD-set-same (st .session .counts) (q .task - 1) (x .u) 0 (omega (arith, f .entries)))
+            (getD-set-same (countsOf (st .lists)) (q .task - 1) (x .u) 0 (omega (arith, task-few, length-counts (st .lists) (f .as-many))))
         go false e =
             rw (counts-is, other-tally i (eqb-false _ _ e))
-            (getD-set-other (st .session .counts) (q .task - 1) i (x .u) 0 (eqb-false _ _ e) ∙ f .counts-are i h)
+            (getD-set-other (countsOf (st .lists)) (q .task - 1) i (x .u) 0 (eqb-false _ _ e) ∙ f .counts-are i h)
 
-    head-same : stored st q .session .head ≡ st .session .head
+    session-same : stored st q .session ≡ st .session
     unfolding stored
-    head-same = refl
-
-    planned-same : stored st q .session .planned ≡ st .session .planned
-    unfolding stored
-    planned-same = refl
-
-    closed-same : stored st q .session .closed ≡ st .session .closed
-    unfolding stored
-    closed-same = refl
+    session-same = refl
 
     stored-follows : length (stored st q .image) ≡ length (st .image)
-        → Follows (st .session .head) (st .session .planned) (told (planAt st) b (askOf q)) (stored st q)
+        → Follows (st .session) (sizeOf (st .lists)) (told (planAt st) b (askOf q)) (stored st q)
     stored-follows long =
         record {
-          head-is = head-same;
-          planned-is = planned-same;
-          unmarked = closed-same ∙ f .unmarked;
-          sound = f .sound;
+          session-is = session-same;
+          sizes-are = ap entry sizes-same;
+          unmarked = f .unmarked;
+          sound = sound-agree (st .session .head) (stored st q .lists) (st .lists) ranks-same sizes-same ∙ f .sound;
           some = f .some;
           few = f .few;
-          entries = rw (counts-is, length-set) (f .entries);
+          as-many = rw (lists-is, length-set) (f .as-many);
           image-long = rw long (f .image-long);
           table-long = rw (table-is, length-set) (f .table-long);
           counts-are = new-counts;
@@ -171,20 +179,20 @@ module _ {b : Book} {st : State} (f : Own b st) (q : Request) where
         → stored st q .image ≡ laidIn (planAt st) b (st .image) q → Did b st q
     store number zero bytes image =
         let e = accepted-stores st q number bytes in
-        let lo = layout-of (st .session .head) (st .session .planned) (f .sound) in
+        let lo = layout-of (st .session) (sizeOf (st .lists)) (head-block _ _ (f .sound)) in
         let long : length (stored st q .image) ≡ length (st .image) =
         ap length image ∙ length-after _ _ _ lo (q ∷ []) b (st .image) (f .image-long) (f .sane) in (
           record {
             number-is = number ∙ sym zero;
             image-is = ap (λ (x : State). x .image) e ∙ image;
             follows =
-                subst (λ (x : State). Follows (st .session .head) (st .session .planned) (told (planAt st) b (askOf q)) x) (sym e)
+                subst (λ (x : State). Follows (st .session) (sizeOf (st .lists)) (told (planAt st) b (askOf q)) x) (sym e)
                 (stored-follows long);
             table-as-long = ap (λ (x : State). length (x .table)) e ∙ rw table-is (length-set (st .table) cellAt (pos (x .w)));
             other-cells = λ j l. ap (λ (x : State). cell (x .table) j) e ∙ other-index j (λ z. omega (arith, cellAt-lt));
-            other-counts =
-                λ i l. ap (λ (x : State). entry (x .session .counts) i) e
-                ∙ rw counts-is (getD-set-other (st .session .counts) (q .task - 1) i (x .u) 0 (λ z. omega arith));
+            other-entries =
+                λ j l. ap (λ (x : State). entry (x .lists) j) e
+                ∙ rw lists-is (getD-set-other (st .lists) (countAt (q .task - 1)) j (x .u) 0 (λ z. ⊎-elim (λ y. omega arith) (λ y. omega arith) l));
           },
           λ i k l d.
               ap (λ (x : State). cell (x .table) (valueIndex (st .session .head .n) k i)) e

@@ -12,10 +12,10 @@ use lib.ListN.{length}
 use borrow.Author.Tests.{eqb-true, eqb-false, lt-ltb, le-ltb, le-leb, lt-leb, ltb-true}
 use Rattle.endian.specs.Signed.{natural}
 use Rattle.endian.proofs.Signed.{within-facts, within-holds}
-use Rattle.meta.specs.declared.head.Head.{Head}
 use Rattle.meta.specs.Refusals.{firstFailing}
-use Rattle.meta.specs.Heads.{cellsAgree, isTask}
+use Rattle.meta.specs.Heads.{sizeOf, cellsAgree, isTask}
 use Rattle.meta.proofs.Rules.{values-hold}
+use Rattle.session.specs.declared.record.Session.{Session}
 use Rattle.session.specs.Records.{State, sessionTests}
 use Rattle.session.specs.Write.{Request, Spot, begun, inLast, room, spot, target, writeRefusal, stored}
 use Rattle.session.proofs.Sessions.{state-passes}
@@ -159,50 +159,50 @@ module _ {b : Book} {st : State} (f : Own b st) where
             let number = no-chunk l h some fits (omega arith) in
             still f q (number ∙ sym (ap answerTo e)) (rw e) (now noRoom e) (refused-keeps st q (omega arith))
 
--- ---- for any head and K that are the state's
+-- ---- for any numbers and sizes that are the state's
 
--- what is said of its own head and K is said of those given
-own-as : (st : State) {h : Head} {K : ℕ} (P : Head → ℕ → Type 0) → st .session .head ≡ h → st .session .planned ≡ K
-    → P (st .session .head) (st .session .planned) → P h K
-own-as st {K = K} P e d x = subst (λ (h : Head). P h K) e (subst (λ (k : ℕ). P (st .session .head) k) d x)
+-- what is said of its own numbers and sizes is said of those given
+own-as : (st : State) {s : Session} {size : ℕ → ℕ} (P : Session → (ℕ → ℕ) → Type 0) → st .session ≡ s → sizeOf (st .lists) ≡ size
+    → P (st .session) (sizeOf (st .lists)) → P s size
+own-as st {size = size} P e d x = subst (λ (s : Session). P s size) e (subst (λ (f : ℕ → ℕ). P (st .session) f) d x)
 
-as-own : (st : State) {h : Head} {K : ℕ} (P : Head → ℕ → Type 0) → st .session .head ≡ h → st .session .planned ≡ K
-    → P h K → P (st .session .head) (st .session .planned)
-as-own st {K = K} P e d x =
-    subst (λ (k : ℕ). P (st .session .head) k) (sym d) (subst (λ (h : Head). P h K) (sym e) x)
+as-own : (st : State) {s : Session} {size : ℕ → ℕ} (P : Session → (ℕ → ℕ) → Type 0) → st .session ≡ s → sizeOf (st .lists) ≡ size
+    → P s size → P (st .session) (sizeOf (st .lists))
+as-own st {size = size} P e d x =
+    subst (λ (f : ℕ → ℕ). P (st .session) f) (sym d) (subst (λ (s : Session). P s size) (sym e) x)
 
-module _ {h : Head} {K : ℕ} where
-  module _ {b : Book} {st : State} (f : Follows h K b st) where
+module _ {s : Session} {size : ℕ → ℕ} where
+  module _ {b : Book} {st : State} (f : Follows s size b st) where
     own : Own b st
-    own = as-own st (λ h K. Follows h K b st) (f .head-is) (f .planned-is) f
+    own = as-own st (λ s size. Follows s size b st) (f .session-is) (f .sizes-are) f
 
     -- what keeps a session alive
     pub passes : firstFailing (sessionTests st) ≡ 0
     passes = own-passes own
 
-    pub step : (q : Request) → Step h K b st q
-    step q = own-as st (λ h K. Step h K b st q) (f .head-is) (f .planned-is) (own-step own q .0)
+    pub step : (q : Request) → Step s size b st q
+    step q = own-as st (λ s size. Step s size b st q) (f .session-is) (f .sizes-are) (own-step own q .0)
 
-    pub cells-kept : (q : Request) → CellsKept h K b st q
-    cells-kept q = own-as st (λ h K. CellsKept h K b st q) (f .head-is) (f .planned-is) (own-step own q .1)
+    pub cells-kept : (q : Request) → CellsKept s size b st q
+    cells-kept q = own-as st (λ s size. CellsKept s size b st q) (f .session-is) (f .sizes-are) (own-step own q .1)
 
-  pub runs : {b : Book} {st : State} → Follows h K b st → (qs : List Request) → Runs h K b st qs
+  pub runs : {b : Book} {st : State} → Follows s size b st → (qs : List Request) → Runs s size b st qs
   runs f [] = record {
     numbers-are = refl;
     image-is = refl;
     follows = f;
     table-as-long = refl;
     other-cells = λ j l. refl;
-    other-counts = λ i l. refl;
+    other-entries = λ j l. refl;
   }
   runs {b} f (q ∷ qs) =
-      let s = step f q in
-      let r = runs (s .follows) qs in
+      let t = step f q in
+      let r = runs (t .follows) qs in
       record {
-        numbers-are = ap₂ _∷_ (s .number-is) (r .numbers-are);
-        image-is = r .image-is ∙ ap (λ (m : List ℕ). imageAfter (planIn h K) (told (planIn h K) b (askOf q)) m qs) (s .image-is);
+        numbers-are = ap₂ _∷_ (t .number-is) (r .numbers-are);
+        image-is = r .image-is ∙ ap (λ (m : List ℕ). imageAfter (planIn s size) (told (planIn s size) b (askOf q)) m qs) (t .image-is);
         follows = r .follows;
-        table-as-long = r .table-as-long ∙ s .table-as-long;
-        other-cells = λ j l. r .other-cells j l ∙ s .other-cells j l;
-        other-counts = λ i l. r .other-counts i l ∙ s .other-counts i l;
+        table-as-long = r .table-as-long ∙ t .table-as-long;
+        other-cells = λ j l. r .other-cells j l ∙ t .other-cells j l;
+        other-entries = λ j l. r .other-entries j l ∙ t .other-entries j l;
       }

@@ -1,6 +1,6 @@
 -- What a session's cells and image say of a task is what was accepted from it: each accepted write adds its bytes to the task's stream,
 -- and what stands before the chunks stays. Assumes nothing.
-use mathlib.Core.Path.{_≡_, refl, sym, ap, _∙_}
+use mathlib.Core.Path.{_≡_, refl, sym, ap, ap₂, _∙_}
 use mathlib.Core.Bool.{Bool, true, false, cond, _&&_, and-false}
 use mathlib.Core.List.{List, [], _∷_, _++_, append-assoc, append-nil}
 use Prim.Native.Nat.{ℕ, _+_, _-_, _≤_, _<_}
@@ -19,9 +19,10 @@ use Rattle.endian.proofs.Signed.{within-natural}
 use Rattle.endian.proofs.Splice.{splice-before, splice-grows}
 use Rattle.layout.specs.Areas.{dataStart}
 use Rattle.layout.proofs.Chunks.{chunk-after-data}
-use Rattle.meta.specs.declared.head.Head.{Head}
 use Rattle.meta.specs.Meta2.{valueIndex}
-use Rattle.meta.specs.Heads.{entry, cell, holds, startOf}
+use Rattle.meta.specs.Heads.{cell, sizeOf, countOf, holds, startOf}
+use Rattle.meta.proofs.Records.{head-block}
+use Rattle.session.specs.declared.record.Session.{Session}
 use Rattle.session.specs.Records.{State}
 use Rattle.session.specs.Write.{Request, writeRefusal, afterWrite, writes, refusals, accepted}
 use Rattle.session.proofs.Outcomes.{refused-keeps, empty-keeps}
@@ -36,38 +37,39 @@ use Rattle.room.proofs.Steps.{step, cells-kept}
 unfoldable pub bytesIn : State → ℕ → ℕ → List ℕ
 bytesIn st i k =
     take (natural (cell (st .table) (valueIndex (st .session .head .n) k i)))
-    (drop (startOf (st .session .head) (i + 1) (k + 1)) (st .image))
+    (drop (startOf (st .session .head) (sizeOf (st .lists)) (i + 1) (k + 1)) (st .image))
 
 unfoldable pub streamIn : State → ℕ → List ℕ
-streamIn st i = joinBelow (entry (st .session .counts) i) (bytesIn st i)
+streamIn st i = joinBelow (countOf (st .lists) i) (bytesIn st i)
 
 -- how many bytes a chunk has, by n and the table
-abbrev sizeIn : ℕ → List ℤ → ℕ → ℕ → ℕ
-sizeIn n table i k = natural (cell table (valueIndex n k i))
+abbrev bytesFor : ℕ → List ℤ → ℕ → ℕ → ℕ
+bytesFor n table i k = natural (cell table (valueIndex n k i))
 
-module _ {h : Head} {K : ℕ} {b : Book} {st : State} (f : Follows h K b st) where
-  bytes-are : (i k : ℕ) → bytesIn st i k ≡ take (sizeIn (h .n) (st .table) i k) (drop (startOf h (i + 1) (k + 1)) (st .image))
+module _ {s : Session} {size : ℕ → ℕ} {b : Book} {st : State} (f : Follows s size b st) where
+  bytes-are : (i k : ℕ) → bytesIn st i k ≡ take (bytesFor (s .head .n) (st .table) i k) (drop (startOf (s .head) size (i + 1) (k + 1)) (st .image))
   unfolding bytesIn
   bytes-are i k =
-      ap (λ (x : Head). take (sizeIn (x .n) (st .table) i k) (drop (startOf x (i + 1) (k + 1)) (st .image))) (f .head-is)
+      ap₂ (λ (x : Session) (size : ℕ → ℕ). take (bytesFor (x .head .n) (st .table) i k) (drop (startOf (x .head) size (i + 1) (k + 1)) (st .image)))
+      (f .session-is) (f .sizes-are)
 
-  stream-is : (i : ℕ) → i < h .n → streamIn st i ≡ joinBelow (b (i + 1) .u) (bytesIn st i)
+  stream-is : (i : ℕ) → i < s .head .n → streamIn st i ≡ joinBelow (b (i + 1) .u) (bytesIn st i)
   unfolding streamIn
   stream-is i l = ap (λ (n : ℕ). joinBelow n (bytesIn st i)) (f .counts-are i l)
 
   -- a chunk that has been begun
-  module _ (i k : ℕ) (task : i < h .n) (begun : k < b (i + 1) .u) where
-    there : k < K
+  module _ (i k : ℕ) (task : i < s .head .n) (begun : k < b (i + 1) .u) where
+    there : k < s .planned
     there = omega (arith, f .sane (i + 1) .1 .most)
 
-    size-last : k + 1 ≡ b (i + 1) .u → sizeIn (h .n) (st .table) i k ≡ b (i + 1) .w
+    size-last : k + 1 ≡ b (i + 1) .u → bytesFor (s .head .n) (st .table) i k ≡ b (i + 1) .w
     size-last e = ap natural (f .cells-are i k task there .last e)
 
-    size-fits : sizeIn (h .n) (st .table) i k ≤ holds h i
-    size-fits = within-natural 0 (holds h i) (cell (st .table) (valueIndex (h .n) k i)) (used-fits f i k task begun) .2
+    size-fits : bytesFor (s .head .n) (st .table) i k ≤ holds (s .head) size i
+    size-fits = within-natural 0 (holds (s .head) size i) (cell (st .table) (valueIndex (s .head .n) k i)) (used-fits f i k task begun) .2
 
     -- each of its bytes is one that the plan has and that has been written
-    in-chunk : (j : ℕ) → j < sizeIn (h .n) (st .table) i k → InChunk (planIn h K) (i + 1) (k + 1) j
+    in-chunk : (j : ℕ) → j < bytesFor (s .head .n) (st .table) i k → InChunk (planIn s size) (i + 1) (k + 1) j
     in-chunk j l =
         let z : i + 1 - 1 ≡ i = omega arith in
         record {
@@ -78,23 +80,23 @@ module _ {h : Head} {K : ℕ} {b : Book} {st : State} (f : Follows h K b st) whe
           fits = rw z (omega (arith, size-fits));
         }
 
-    taken : (j : ℕ) → j < sizeIn (h .n) (st .table) i k → Taken (b (i + 1)) (k + 1) j
+    taken : (j : ℕ) → j < bytesFor (s .head .n) (st .table) i k → Taken (b (i + 1)) (k + 1) j
     taken j l = record { begun = omega arith; full = λ e. omega (arith, size-last e) }
 
   -- the stream, where the last chunk begun is chunk m + 1
-  stream-last : (i m : ℕ) → i < h .n → m + 1 ≡ b (i + 1) .u
-      → streamIn st i ≡ joinBelow m (bytesIn st i) ++ take (b (i + 1) .w) (drop (startOf h (i + 1) (m + 1)) (st .image))
+  stream-last : (i m : ℕ) → i < s .head .n → m + 1 ≡ b (i + 1) .u
+      → streamIn st i ≡ joinBelow m (bytesIn st i) ++ take (b (i + 1) .w) (drop (startOf (s .head) size (i + 1) (m + 1)) (st .image))
   stream-last i m l e =
       stream-is i l ∙ ap (λ (n : ℕ). joinBelow n (bytesIn st i)) (sym e)
       ∙ rw (join-more, bytes-are i m, size-last i m l (omega arith) e)
 
-module _ (h : Head) (K M : ℕ) (lo : Layout (h .blocksize) M (planIn h K)) where
+module _ (s : Session) (size : ℕ → ℕ) (M : ℕ) (lo : Layout (s .head .blocksize) M (planIn s size)) where
   -- one write
-  module _ {b : Book} {st : State} (f : Follows h K b st) (long : M ≤ length (st .image)) (q : Request) where
+  module _ {b : Book} {st : State} (f : Follows s size b st) (long : M ≤ length (st .image)) (q : Request) where
     abbrev fed : Plan
-    fed = planIn h K
+    fed = planIn s size
 
-    next : Follows h K (told fed b (askOf q)) (afterWrite st q)
+    next : Follows s size (told fed b (askOf q)) (afterWrite st q)
     next = step f q .follows
 
     as-long : length (laidIn fed b (st .image) q) ≡ length (st .image)
@@ -104,36 +106,36 @@ module _ (h : Head) (K M : ℕ) (lo : Layout (h .blocksize) M (planIn h K)) wher
     still-long = rw (step f q .image-is, as-long) long
 
     -- a chunk that has been begun, where its cell is as it was
-    chunk-same : (i k : ℕ) → i < h .n → k < b (i + 1) .u
+    chunk-same : (i k : ℕ) → i < s .head .n → k < b (i + 1) .u
         → (q .task ≡ i + 1 → k + 1 ≡ told fed b (askOf q) (i + 1) .u → ⊥) → bytesIn (afterWrite st q) i k ≡ bytesIn st i k
     chunk-same i k l u d =
         let z : i + 1 - 1 ≡ i = omega arith in
-        let size : ℕ = sizeIn (h .n) (st .table) i k in
-        let inside : startOf h (i + 1) (k + 1) + holds h i ≤ M =
+        let bytes : ℕ = bytesFor (s .head .n) (st .table) i k in
+        let inside : startOf (s .head) size (i + 1) (k + 1) + holds (s .head) size i ≤ M =
         rw z at (lo .inside (i + 1) (k + 1) (omega arith) (omega arith) (omega arith) (omega (arith, there f i k l u))) in
-        let fits : startOf h (i + 1) (k + 1) + size ≤ length (st .image) = omega (arith, size-fits f i k l u) in
+        let fits : startOf (s .head) size (i + 1) (k + 1) + bytes ≤ length (st .image) = omega (arith, size-fits f i k l u) in
         bytes-are next i k
         ∙ rw (cells-kept f q i k l d, step f q .image-is)
-        (part-cong size (startOf h (i + 1) (k + 1)) (laidIn fed b (st .image) q) (st .image) 0 (rw as-long fits) fits
+        (part-cong bytes (startOf (s .head) size (i + 1) (k + 1)) (laidIn fed b (st .image) q) (st .image) 0 (rw as-long fits) fits
         (λ j m. kept _ _ _ lo b q (st .image) long (f .sane) (in-chunk f i k l u j m) (taken f i k l u j m)))
         ∙ sym (bytes-are f i k)
 
     -- a task whose last chunk afterwards is chunk m + 1, with the bytes put after the first `from` of it
-    grows : (i m from : ℕ) → i < h .n → told fed b (askOf q) (i + 1) .u ≡ m + 1
+    grows : (i m from : ℕ) → i < s .head .n → told fed b (askOf q) (i + 1) .u ≡ m + 1
         → told fed b (askOf q) (i + 1) .w ≡ from + length (q .bytes) → m ≤ b (i + 1) .u
-        → laidIn fed b (st .image) q ≡ splice (st .image) (startOf h (i + 1) (m + 1) + from) (q .bytes)
-        → startOf h (i + 1) (m + 1) + from + length (q .bytes) ≤ length (st .image)
+        → laidIn fed b (st .image) q ≡ splice (st .image) (startOf (s .head) size (i + 1) (m + 1) + from) (q .bytes)
+        → startOf (s .head) size (i + 1) (m + 1) + from + length (q .bytes) ≤ length (st .image)
         → streamIn (afterWrite st q) i
-        ≡ (joinBelow m (bytesIn st i) ++ take from (drop (startOf h (i + 1) (m + 1)) (st .image))) ++ q .bytes
+        ≡ (joinBelow m (bytesIn st i) ++ take from (drop (startOf (s .head) size (i + 1) (m + 1)) (st .image))) ++ q .bytes
     grows i m from l u w few laid fits =
         let rest : joinBelow m (bytesIn (afterWrite st q) i) ≡ joinBelow m (bytesIn st i) =
         join-cong _ _ m (λ k n. chunk-same i k l (omega arith) (λ e d. omega arith)) in
         stream-last next i m l (sym u)
-        ∙ rw (rest, w, step f q .image-is, laid, splice-grows (st .image) (startOf h (i + 1) (m + 1)) from (q .bytes) fits)
+        ∙ rw (rest, w, step f q .image-is, laid, splice-grows (st .image) (startOf (s .head) size (i + 1) (m + 1)) from (q .bytes) fits)
         (sym (append-assoc (joinBelow m (bytesIn st i)) _ (q .bytes)))
 
     -- an accepted write that has bytes, of the task itself
-    stream-own : (i : ℕ) → i < h .n → q .task ≡ i + 1 → writeRefusal st q ≡ 0 → 0 < length (q .bytes)
+    stream-own : (i : ℕ) → i < s .head .n → q .task ≡ i + 1 → writeRefusal st q ≡ 0 → 0 < length (q .bytes)
         → streamIn (afterWrite st q) i ≡ streamIn st i ++ q .bytes
     stream-own i l e r some =
         go (fateIn fed b (askOf q)) refl (view fed (askOf q) (b (q .task))) (sym (step f q .number-is) ∙ r)
@@ -149,8 +151,8 @@ module _ (h : Head) (K M : ℕ) (lo : Layout (h .blocksize) M (planIn h K)) wher
             told-same fed b (askOf q) (i + 1) e
             ∙ ap (λ (z : Fate). afterwards z (length (q .bytes)) (b (i + 1))) (ap (λ (t : ℕ). fate fed (askOf q) (b t)) (sym e) ∙ d)
 
-        inside : (k : ℕ) → 1 ≤ k → k ≤ K → startOf h (i + 1) k + holds h (q .task - 1) ≤ M
-        inside k k1 km = rw (ap (λ (t : ℕ). holds h (t - 1)) e) (lo .inside (i + 1) k (omega arith) (omega arith) k1 km)
+        inside : (k : ℕ) → 1 ≤ k → k ≤ s .planned → startOf (s .head) size (i + 1) k + holds (s .head) size (q .task - 1) ≤ M
+        inside k k1 km = rw (ap (λ (t : ℕ). holds (s .head) size (t - 1)) e) (lo .inside (i + 1) k (omega arith) (omega arith) k1 km)
 
         go : (z : Fate) → fateIn fed b (askOf q) ≡ z → View fed (askOf q) (b (q .task)) z → answerTo z ≡ 0
             → streamIn (afterWrite st q) i ≡ streamIn st i ++ q .bytes
@@ -161,7 +163,7 @@ module _ (h : Head) (K M : ℕ) (lo : Layout (h .blocksize) M (planIn h K)) wher
             let m : ℕ = b (i + 1) .u - 1 in
             let last : m + 1 ≡ b (i + 1) .u = omega (arith, same-u) in
             let now = now stays d in
-            let at : startOf h (q .task) (b (q .task) .u) + b (q .task) .w ≡ startOf h (i + 1) (m + 1) + b (i + 1) .w =
+            let at : startOf (s .head) size (q .task) (b (q .task) .u) + b (q .task) .w ≡ startOf (s .head) size (i + 1) (m + 1) + b (i + 1) .w =
             cc (e, same-u, same-w, last) in
             let room = inside (m + 1) (omega arith) (omega (arith, f .sane (i + 1) .1 .most)) in
             grows i m (b (i + 1) .w) l (ap (λ (x : Tally). x .u) now ∙ sym last) (ap (λ (x : Tally). x .w) now) (omega arith)
@@ -170,8 +172,8 @@ module _ (h : Head) (K M : ℕ) (lo : Layout (h .blocksize) M (planIn h K)) wher
         go moves d (is-moves low top _ fits u _) n =
             let m : ℕ = b (i + 1) .u in
             let now = now moves d in
-            let at : startOf h (q .task) (b (q .task) .u + 1) ≡ startOf h (i + 1) (m + 1) + 0 =
-            cc (e, same-u, add-zero (startOf h (i + 1) (m + 1))) in
+            let at : startOf (s .head) size (q .task) (b (q .task) .u + 1) ≡ startOf (s .head) size (i + 1) (m + 1) + 0 =
+            cc (e, same-u, add-zero (startOf (s .head) size (i + 1) (m + 1))) in
             let room = inside (m + 1) (omega arith) (omega (arith, same-u)) in
             grows i m 0 l (ap (λ (x : Tally). x .u) now) (ap (λ (x : Tally). x .w) now ∙ sym (zero-add (length (q .bytes)))) (omega arith)
             (rw d (ap (λ (x : ℕ). splice (st .image) x (q .bytes)) at)) (omega arith)
@@ -179,13 +181,13 @@ module _ (h : Head) (K M : ℕ) (lo : Layout (h .blocksize) M (planIn h K)) wher
         go noRoom d (is-noRoom _ _ _ _ _ _) n = absurd (omega arith)
 
     -- one of another task
-    stream-other : (i : ℕ) → i < h .n → (q .task ≡ i + 1 → ⊥) → streamIn (afterWrite st q) i ≡ streamIn st i
+    stream-other : (i : ℕ) → i < s .head .n → (q .task ≡ i + 1 → ⊥) → streamIn (afterWrite st q) i ≡ streamIn st i
     stream-other i l d =
         stream-is next i l
         ∙ rw (told-other fed b (askOf q) (i + 1) d) (join-cong _ _ (b (i + 1) .u) (λ k m. chunk-same i k l m (λ e. absurd (d e))))
         ∙ sym (stream-is f i l)
 
-    stream-step : (i : ℕ) → i < h .n
+    stream-step : (i : ℕ) → i < s .head .n
         → streamIn (afterWrite st q) i ≡ streamIn st i ++ cond (eqb (q .task) (i + 1) && eqb (writeRefusal st q) 0) (q .bytes) []
     stream-step i l = go (eqb (writeRefusal st q) 0) refl (eqb (length (q .bytes)) 0) refl (eqb (q .task) (i + 1)) refl
       where
@@ -205,7 +207,7 @@ module _ (h : Head) (K M : ℕ) (lo : Layout (h .blocksize) M (planIn h K)) wher
         go true e false c true d = stream-own i l (eqb-true _ _ d) (eqb-true _ _ e) (omega (arith, eqb-false))
         go true e false c false d = rw append-nil (stream-other i l (eqb-false _ _ d))
 
-  pub stream-all : {b : Book} {st : State} → Follows h K b st → M ≤ length (st .image) → (qs : List Request) (i : ℕ) → i < h .n
+  pub stream-all : {b : Book} {st : State} → Follows s size b st → M ≤ length (st .image) → (qs : List Request) (i : ℕ) → i < s .head .n
       → streamIn (writes st qs) i ≡ streamIn st i ++ accepted (i + 1) qs (refusals st qs)
   stream-all f long [] i l = sym (append-nil _)
   stream-all f long (q ∷ qs) i l =
@@ -213,19 +215,19 @@ module _ (h : Head) (K M : ℕ) (lo : Layout (h .blocksize) M (planIn h K)) wher
       ∙ rw (stream-step f long q i l, append-assoc)
 
 -- writes leave what stands before the chunks
-front-step : {h : Head} {K : ℕ} {b : Book} {st : State} → Follows h K b st → (q : Request)
-    → take (dataStart (h .blocksize) (h .n)) (afterWrite st q .image) ≡ take (dataStart (h .blocksize) (h .n)) (st .image)
+front-step : {s : Session} {size : ℕ → ℕ} {b : Book} {st : State} → Follows s size b st → (q : Request)
+    → take (dataStart (s .head .blocksize) (s .head .n)) (afterWrite st q .image) ≡ take (dataStart (s .head .blocksize) (s .head .n)) (st .image)
 unfolding startOf
-front-step {h} {K} {b} {st} f q =
-    let d : ℕ = dataStart (h .blocksize) (h .n) in
+front-step {s} {size} {b} {st} f q =
+    let d : ℕ = dataStart (s .head .blocksize) (s .head .n) in
     rw (step f q .image-is)
-    (laid-ways (planIn h K) b q (f .sane) (λ m. take d m ≡ take d (st .image)) (st .image) refl
+    (laid-ways (planIn s size) b q (f .sane) (λ m. take d m ≡ take d (st .image)) (st .image) refl
     (λ z.
-    let fits = fits-of _ _ _ (layout-of h K (f .sound)) (st .image) (f .image-long) z in
-    splice-before (st .image) (offsetIn (planIn h K) b q) (q .bytes) fits 0 d
-    (omega (arith, z .is, chunk-after-data (h .blocksize) (h .n) (entry (h .sizes)) (q .task) (z .k)))))
+    let fits = fits-of _ _ _ (layout-of s size (head-block _ _ (f .sound))) (st .image) (f .image-long) z in
+    splice-before (st .image) (offsetIn (planIn s size) b q) (q .bytes) fits 0 d
+    (omega (arith, z .is, chunk-after-data (s .head .blocksize) (s .head .n) size (q .task) (z .k)))))
 
-pub front-kept : {h : Head} {K : ℕ} {b : Book} {st : State} → Follows h K b st → (qs : List Request)
-    → take (dataStart (h .blocksize) (h .n)) (writes st qs .image) ≡ take (dataStart (h .blocksize) (h .n)) (st .image)
+pub front-kept : {s : Session} {size : ℕ → ℕ} {b : Book} {st : State} → Follows s size b st → (qs : List Request)
+    → take (dataStart (s .head .blocksize) (s .head .n)) (writes st qs .image) ≡ take (dataStart (s .head .blocksize) (s .head .n)) (st .image)
 front-kept f [] = refl
 front-kept f (q ∷ qs) = front-kept (step f q .follows) qs ∙ front-step f q

@@ -25,9 +25,9 @@ abbrev pub planOf : Opening → Plan
 planOf o =
     record {
       n = tasks o;
-      K = o .planned;
-      c = λ task. capacity (o .blocksize) (entry (o .sizes) (task - 1));
-      start = chunkStart (o .blocksize) (tasks o) (entry (o .sizes));
+      K = o .plan .planned;
+      c = λ task. capacity (o .plan .blocksize) (entry (o .sizes) (task - 1));
+      start = chunkStart (o .plan .blocksize) (tasks o) (entry (o .sizes));
     }
 
 -- "and of each write only task number and length L"

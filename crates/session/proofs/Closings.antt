@@ -6,21 +6,21 @@ use lib.ListN.{length}
 use Rattle.endian.proofs.Below.{greatest-le}
 use Rattle.layout.specs.Limits.{maxBlocks}
 use Rattle.layout.proofs.Chunks.{meta2End-mono}
-use Rattle.meta.specs.Heads.{entry, endAt}
+use Rattle.meta.specs.Heads.{sizeOf, countOf, endAt}
 use Rattle.session.specs.Records.{State}
-use Rattle.session.specs.Close.{maxchunksOf}
+use Rattle.session.specs.Close.{maxchunksOf, used}
 use Rattle.session.proofs.Sessions.{StateHolds}
 
 pub record Closes (st : State) : Type 0 where
-  pub planned : maxchunksOf (st .session) ≤ st .session .planned
-  pub few : maxchunksOf (st .session) ≤ maxBlocks
-  pub table-long : st .session .head .n * maxchunksOf (st .session) ≤ length (st .table)
-  pub image-long : endAt (st .session .head) (maxchunksOf (st .session)) ≤ length (st .image)
+  pub planned : used st ≤ st .session .planned
+  pub few : used st ≤ maxBlocks
+  pub table-long : st .session .head .n * used st ≤ length (st .table)
+  pub image-long : endAt (st .session .head) (sizeOf (st .lists)) (used st) ≤ length (st .image)
 
 pub closes : (st : State) → StateHolds st → Closes st
 unfolding maxchunksOf endAt
 closes st h =
-    let most = greatest-le (entry (st .session .counts)) (st .session .head .n) (st .session .planned) (h .sound .counts) in
+    let most = greatest-le (countOf (st .lists)) (st .session .head .n) (st .session .planned) (h .sound .counts) in
     record {
       planned = most;
       few = le-trans most (h .sound .few);

@@ -9,7 +9,6 @@ use borrow.Author.Tests.{lt-ltb, le-ltb, le-leb, leb-true, leb-false, eqb-true, 
 use Rattle.endian.proofs.Signed.{within-holds}
 use Rattle.meta.specs.Refusals.{firstFailing}
 use Rattle.meta.specs.Heads.{isTask}
-use Rattle.meta.proofs.Refusals.{first-fails}
 use Rattle.session.specs.declared.writing.Decision.{Decision}
 use Rattle.session.specs.Records.{State, sessionTests}
 use Rattle.session.specs.Write.{Request, begun, inLast, room, spot, requestTests, nextChunk, writeRefusal, decision, stored, afterWrite}
@@ -22,7 +21,7 @@ nothing refusal = record { refusal = refusal; chunk = 0; from = 0 }
 
 module _ (st : State) (q : Request) where
   -- the next chunk, and the last one in use
-  pub spot-next : (ltb 0 (begun st q) && leb (length (q .bytes)) (room st q - inLast st q)) ≡ false
+  spot-next : (ltb 0 (begun st q) && leb (length (q .bytes)) (room st q - inLast st q)) ≡ false
       → spot st q ≡ record { chunk = begun st q + 1; from = 0 }
   unfolding spot
   spot-next e = rw e
@@ -35,10 +34,6 @@ module _ (st : State) (q : Request) where
   none : (r : ℕ) → 0 < r → writeRefusal st q ≡ r → nothing r ≡ decision st q
   unfolding decision
   none r some e = rw (e, ne-eqb r 0 (λ z. omega arith))
-
-  pub decide-refused : 0 < firstFailing (sessionTests st) → nothing (firstFailing (sessionTests st)) ≡ decision st q
-  unfolding writeRefusal
-  decide-refused some = none (firstFailing (sessionTests st)) some (first-fails (sessionTests st) (requestTests st q) some)
 
   module _ (passes : firstFailing (sessionTests st) ≡ 0) where
     pub decide-no-task : isTask (st .session .head .n) (q .task) ≡ false → nothing 14 ≡ decision st q

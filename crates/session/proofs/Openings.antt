@@ -18,13 +18,13 @@ use Rattle.layout.specs.Areas.{dataStart, meta2Start, meta2End}
 use Rattle.meta.specs.Refusals.{Test, test, firstFailing}
 use Rattle.meta.specs.Meta1.{prefixLength, openingBytes}
 use Rattle.meta.specs.Meta2.{unused}
-use Rattle.meta.specs.Heads.{entry, isOrder, headSound, tooShort, endAt, headOf}
+use Rattle.meta.specs.Heads.{entry, rankOf, sizeOf, noLists, isOrder, headSound, tooShort, endAt}
 use Rattle.meta.proofs.Refusals.{Numbered, first-passes, first-fails, both-pass, none-fails, when-accepted, when-refused, number-is}
 use Rattle.meta.proofs.Fields.{tasks-facts}
 use Rattle.meta.proofs.Filled.{filled-list}
-use Rattle.meta.proofs.Heads.{endAt-made}
+use Rattle.meta.proofs.Stripes.{ranks-made, sizes-made}
 use Rattle.session.specs.declared.record.Needed.{Needed}
-use Rattle.session.specs.Open.{Opening, tasks, shapeTests, numberTests, planTests, needsAnswer, openRefusal, openHead, openSession}
+use Rattle.session.specs.Open.{Opening, tasks, shapeTests, numberTests, planTests, needsAnswer, openRefusal, openHead, openSession, openLists}
 use Rattle.session.specs.Records.{noSession}
 use Rattle.session.specs.Open.{opens, openAnswer, openImage, openTable}
 
@@ -37,8 +37,8 @@ shape-listed order blocksize ranks sizes prefix e =
 
 -- what the tests of the plan ask of an opening's arguments
 pub record PlanHolds (o : Opening) : Type 0 where
-  pub order : isOrder (o .order) ≡ true
-  pub block : blocksizeRule (pos (o .blocksize)) ≡ true
+  pub order : isOrder (o .plan .order) ≡ true
+  pub block : blocksizeRule (pos (o .plan .blocksize)) ≡ true
   pub task-rule : tasksRule (pos (tasks o)) ≡ true
   pub some-tasks : 1 ≤ tasks o
   pub few-tasks : tasks o ≤ maxTasks
@@ -46,14 +46,14 @@ pub record PlanHolds (o : Opening) : Type 0 where
   pub prefix-short : length (o .prefix) ≤ prefixLength
   pub ranked : ranksRule (tasks o) (λ i. pos (entry (o .ranks) i)) ≡ true
   pub sized : sizesRule (tasks o) (λ i. pos (entry (o .sizes) i)) ≡ true
-  pub some : 1 ≤ o .planned
-  pub few : o .planned ≤ maxBlocks
+  pub some : 1 ≤ o .plan .planned
+  pub few : o .plan .planned ≤ maxBlocks
 
 -- what all its tests ask, of the lengths of the image and of the table too
 pub record OpeningHolds (o : Opening) (imageLength cells : ℕ) : Type 0 where
   pub plan : PlanHolds o
-  pub image-long : endAt (openHead o) (o .planned) ≤ imageLength
-  pub table-long : tasks o * o .planned ≤ cells
+  pub image-long : endAt (openHead o) (entry (o .sizes)) (o .plan .planned) ≤ imageLength
+  pub table-long : tasks o * o .plan .planned ≤ cells
 
 module _ (o : Opening) where
   plan-numbered : Numbered (planTests o)
@@ -65,7 +65,7 @@ module _ (o : Opening) where
   plan-holds e =
       let (order, (block, (count, (prefix, (rank, (size, (planned, end))))))) = none-fails (planTests o) plan-numbered e in
       let rule = not-false _ (or-left (not (tasksRule (pos (tasks o)))) _ count) in
-      let range = within-facts 1 maxBlocks (o .planned) (not-false _ planned) in
+      let range = within-facts 1 maxBlocks (o .plan .planned) (not-false _ planned) in
       record {
         order = not-false _ order;
         block = not-false _ block;
@@ -82,58 +82,56 @@ module _ (o : Opening) where
 
   -- the head says what the opening was given
   module _ (p : PlanHolds o) where
-    pub ranks-kept : entry (openHead o .ranks) ≡ entry (o .ranks)
-    unfolding openHead headOf
-    ranks-kept = filled-list (tasks o) (o .ranks) refl (p .few-tasks)
+    pub ranks-kept : rankOf (openLists o) ≡ entry (o .ranks)
+    unfolding openLists
+    ranks-kept = ap entry (ranks-made (tasks o) _ (entry (o .sizes)) (λ i. 0)) ∙ filled-list (tasks o) (o .ranks) refl (p .few-tasks)
 
-    pub sizes-kept : entry (openHead o .sizes) ≡ entry (o .sizes)
-    unfolding openHead headOf
-    sizes-kept = filled-list (tasks o) (o .sizes) (p .listed) (p .few-tasks)
+    pub sizes-kept : sizeOf (openLists o) ≡ entry (o .sizes)
+    unfolding openLists
+    sizes-kept = ap entry (sizes-made (tasks o) (entry (o .ranks)) _ (λ i. 0)) ∙ filled-list (tasks o) (o .sizes) (p .listed) (p .few-tasks)
 
-    ranks-sound : ranksRule (tasks o) (λ i. pos (entry (openHead o .ranks) i)) ≡ true
+    ranks-sound : ranksRule (tasks o) (λ i. pos (rankOf (openLists o) i)) ≡ true
     ranks-sound = subst (λ (r : ℕ → ℕ). ranksRule (tasks o) (λ i. pos (r i)) ≡ true) (sym ranks-kept) (p .ranked)
 
-    sizes-sound : sizesRule (tasks o) (λ i. pos (entry (openHead o .sizes) i)) ≡ true
+    sizes-sound : sizesRule (tasks o) (λ i. pos (sizeOf (openLists o) i)) ≡ true
     sizes-sound = subst (λ (s : ℕ → ℕ). sizesRule (tasks o) (λ i. pos (s i)) ≡ true) (sym sizes-kept) (p .sized)
 
-    pub opened-sound : headSound (openHead o) ≡ true
-    unfolding headSound openHead headOf
+    pub opened-sound : headSound (openHead o) (openLists o) ≡ true
+    unfolding headSound openHead
     opened-sound = rw (p .order, p .block, p .task-rule, ranks-sound, sizes-sound)
 
   -- the numbers that the layout's functions ask for
-  pub plan-sound : PlanHolds o → Sound (o .blocksize) (tasks o) (o .sizes)
+  pub plan-sound : PlanHolds o → Sound (o .plan .blocksize) (tasks o) (o .sizes)
   plan-sound p = record { block = p .block; tasks = p .few-tasks; listed = omega (arith, p .listed); sized = p .sized }
 
   pub opening-holds : (imageLength cells : ℕ) → openRefusal o imageLength cells ≡ 0 → OpeningHolds o imageLength cells
-  unfolding openRefusal openHead tooShort
+  unfolding openRefusal openHead endAt tooShort
   opening-holds imageLength cells e =
       let (front, back) =
       both-pass (planTests o)
-      (test 18 (tooShort (o .blocksize) (tasks o) (entry (o .sizes)) (o .planned) imageLength cells) ∷ [])
+      (test 18 (tooShort (o .plan .blocksize) (tasks o) (entry (o .sizes)) (o .plan .planned) imageLength cells) ∷ [])
       plan-numbered e in
       let p = plan-holds front in
       let (short, end) =
-      none-fails (test 18 (tooShort (o .blocksize) (tasks o) (entry (o .sizes)) (o .planned) imageLength cells) ∷ []) (omega arith) back in
-      let last : ℕ = meta2End (o .blocksize) (tasks o) (entry (o .sizes)) (o .planned) in
+      none-fails (test 18 (tooShort (o .plan .blocksize) (tasks o) (entry (o .sizes)) (o .plan .planned) imageLength cells) ∷ []) (omega arith) back in
+      let last : ℕ = meta2End (o .plan .blocksize) (tasks o) (entry (o .sizes)) (o .plan .planned) in
       record {
         plan = p;
-        image-long =
-            rw (endAt-made _ _ _ (o .blocksize) (tasks o) _ (entry (o .sizes)) (p .few-tasks) (o .planned))
-            (ltb-false _ _ (or-left (ltb imageLength last) _ short));
+        image-long = ltb-false _ _ (or-left (ltb imageLength last) _ short);
         table-long = ltb-false _ _ (or-right (ltb imageLength last) _ short);
       }
 
   -- the image has room for all up to D
-  pub opening-data : {imageLength cells : ℕ} → OpeningHolds o imageLength cells → dataStart (o .blocksize) (tasks o) ≤ imageLength
-  unfolding openHead headOf endAt meta2End meta2Start
+  pub opening-data : {imageLength cells : ℕ} → OpeningHolds o imageLength cells → dataStart (o .plan .blocksize) (tasks o) ≤ imageLength
+  unfolding openHead endAt meta2End meta2Start
   opening-data h = omega (arith, h .image-long)
 
   -- the plan's number, by the tests that led there
   abbrev shape : List Test
-  shape = shapeTests (o .order) (o .blocksize) (tasks o) (length (o .sizes)) (length (o .prefix))
+  shape = shapeTests (o .plan .order) (o .plan .blocksize) (tasks o) (length (o .sizes)) (length (o .prefix))
 
   abbrev number : List Test
-  number = numberTests (o .ranks) (o .sizes) (o .planned)
+  number = numberTests (o .ranks) (o .sizes) (o .plan .planned)
 
   pub plan-shape : 0 < firstFailing shape → firstFailing (planTests o) ≡ firstFailing shape
   unfolding planTests
@@ -150,7 +148,7 @@ module _ (o : Opening) where
 
   pub needs-lengths : firstFailing (planTests o) ≡ 0
       → needsAnswer o
-      ≡ record { refusal = 0; image = meta2End (o .blocksize) (tasks o) (entry (o .sizes)) (o .planned); cells = tasks o * o .planned }
+      ≡ record { refusal = 0; image = meta2End (o .plan .blocksize) (tasks o) (entry (o .sizes)) (o .plan .planned); cells = tasks o * o .plan .planned }
   unfolding needsAnswer
   needs-lengths = when-accepted _ _ _
 
@@ -188,24 +186,28 @@ module _ (o : Opening) where
 
   -- what an accepted opening leaves
   module _ (image : List ℕ) (table : List ℤ) (accepted : openRefusal o (length image) (length table) ≡ 0) where
-    pub opened-answer : openAnswer o image table ≡ record { refusal = 0; session = openSession o }
+    pub opened-answer : openAnswer o image table ≡ record { session = openSession o; lists = openLists o; refusal = 0 }
     unfolding openAnswer opens
     opened-answer = when-accepted _ _ _ accepted
 
     pub opened-session : openAnswer o image table .session ≡ openSession o
     opened-session = rw opened-answer
 
-    pub opened-image : openImage o image table ≡ splice image 0 (openingBytes (openHead o) (o .prefix))
+    pub opened-lists : openAnswer o image table .lists ≡ openLists o
+    opened-lists = rw opened-answer
+
+    pub opened-image : openImage o image table ≡ splice image 0 (openingBytes (openHead o) (entry (o .ranks)) (entry (o .sizes)) (o .prefix))
     unfolding openImage opens
     opened-image = rw accepted
 
-    pub opened-table : openTable o image table ≡ splice table 0 (replicate (tasks o * o .planned) unused)
+    pub opened-table : openTable o image table ≡ splice table 0 (replicate (tasks o * o .plan .planned) unused)
     unfolding openTable opens
     opened-table = rw accepted
 
   -- what a refused one leaves
   module _ (image : List ℕ) (table : List ℤ) (refused : 0 < openRefusal o (length image) (length table)) where
-    pub refused-answer : openAnswer o image table ≡ record { refusal = openRefusal o (length image) (length table); session = noSession }
+    pub refused-answer : openAnswer o image table
+        ≡ record { session = noSession; lists = noLists; refusal = openRefusal o (length image) (length table) }
     unfolding openAnswer opens
     refused-answer = when-refused _ _ _ refused
 

@@ -5,12 +5,12 @@ use native.Mathlib.Omega.{arith}
 use lib.IntN.{pos}
 use lib.ListN.{length, set}
 use Rattle.endian.specs.Splice.{splice}
-use Rattle.layout.specs.Limits.{maxTasks, maxSize, maxBlocks, Sound}
+use Rattle.layout.specs.Limits.{maxSize, maxBlocks, Sound}
 use Rattle.layout.specs.Areas.{meta2End}
 use Rattle.layout.proofs.Power.{blocksize-facts}
 use Rattle.layout.proofs.Chunks.{chunk-before-meta2}
 use Rattle.meta.specs.Meta2.{valueIndex}
-use Rattle.meta.specs.Heads.{entry, holds, startOf, endAt}
+use Rattle.meta.specs.Heads.{allLists, sizesOf, sizeOf, holds, startOf, endAt}
 use Rattle.meta.proofs.Rules.{valueIndex-lt}
 use Rattle.session.specs.declared.writing.Decision.{Decision}
 use Rattle.session.specs.Records.{State, stateOf, withCount}
@@ -19,36 +19,36 @@ use Rattle.session.proofs.Writable.{Asking, asking, Stores, stores, spo
 use Rattle.session.proofs.Decisions.{is-stored}
 
 pub record Puts (st : State) (q : Request) (d : Decision) : Type 0 where
-  pub sound : Sound (st .session .head .blocksize) (st .session .head .n) (st .session .head .sizes)
+  pub sound : Sound (st .session .head .blocksize) (st .session .head .n) (sizesOf (st .lists))
   pub first-task : 1 ≤ q .task
   pub last-task : q .task ≤ st .session .head .n
   pub first-chunk : 1 ≤ d .chunk
   pub few : d .chunk ≤ maxBlocks
-  pub size-small : entry (st .session .head .sizes) (q .task - 1) ≤ maxSize
+  pub size-small : sizeOf (st .lists) (q .task - 1) ≤ maxSize
   pub room-small : room st q ≤ maxSize
   pub fits : d .from + length (q .bytes) ≤ room st q
-  pub inside : startOf (st .session .head) (q .task) (d .chunk) + room st q ≤ length (st .image)
+  pub inside : startOf (st .session .head) (sizeOf (st .lists)) (q .task) (d .chunk) + room st q ≤ length (st .image)
   pub listed : valueIndex (st .session .head .n) (d .chunk - 1) (q .task - 1) < length (st .table)
   pub accepted : writeRefusal st q ≡ 0
   pub leaves : afterWrite st q
-      ≡ stateOf (withCount (st .session) (q .task - 1) (d .chunk))
-      (splice (st .image) (startOf (st .session .head) (q .task) (d .chunk) + d .from) (q .bytes))
+      ≡ stateOf (st .session) (withCount (st .lists) (q .task - 1) (d .chunk))
+      (splice (st .image) (startOf (st .session .head) (sizeOf (st .lists)) (q .task) (d .chunk) + d .from) (q .bytes))
       (set (st .table) (valueIndex (st .session .head .n) (d .chunk - 1) (q .task - 1)) (pos (d .from + length (q .bytes))))
 
 -- a chunk of a task ends within the image that a session needs
 inside-image : (st : State) (q : Request) → Stores st q → Asking st q
-    → startOf (st .session .head) (q .task) (spot st q .chunk) + room st q ≤ length (st .image)
+    → startOf (st .session .head) (sizeOf (st .lists)) (q .task) (spot st q .chunk) + room st q ≤ length (st .image)
 unfolding room startOf holds endAt meta2End
 inside-image st q s a =
     omega (
       arith,
       s .state .image-long,
-      chunk-before-meta2 (st .session .head .blocksize) (st .session .head .n) (entry (st .session .head .sizes)) (q .task)
+      chunk-before-meta2 (st .session .head .blocksize) (st .session .head .n) (sizeOf (st .lists)) (q .task)
           (spot st q .chunk) (st .session .planned) (omega (arith, blocksize-facts _ (a .sound .block))) (s .first-task) (s .last-task)
           (spot-first st q) (s .last-chunk),
     )
 
-pub puts : (st : State) (q : Request) (d : Decision) → length (st .session .head .sizes) ≡ maxTasks → d ≡ decision st q
+pub puts : (st : State) (q : Request) (d : Decision) → length (st .lists) ≡ allLists → d ≡ decision st q
     → (d .chunk ≡ 0 → ⊥) → Puts st q d
 unfolding stored target
 puts st q d long e some =

@@ -1,6 +1,7 @@
 -- Tests 17, 18 and 19 of a session as facts: what holds of a state where they pass, and that they pass where it holds. Assumes nothing.
 use mathlib.Core.Path.{_≡_}
 use mathlib.Core.Bool.{true, _&&_}
+use mathlib.Core.List.{List}
 use Prim.Native.Nat.{ℕ, _*_, _≤_, _<_}
 use lib.Dec.{leb}
 use lib.IntN.{pos}
@@ -11,25 +12,25 @@ use Rattle.endian.proofs.Below.{and-left, and-right, all-at, all-of}
 use Rattle.endian.proofs.Signed.{within-facts, within-holds}
 use Rattle.layout.specs.Limits.{maxBlocks, plannedRule}
 use Rattle.meta.specs.Refusals.{firstFailing}
-use Rattle.meta.specs.Heads.{entry, headSound, endAt, cellsAgree}
+use Rattle.meta.specs.Heads.{sizeOf, countOf, headSound, endAt, cellsAgree}
 use Rattle.meta.proofs.Refusals.{Numbered}
 use Rattle.meta.proofs.Records.{record-numbered, record-holds, record-passes}
 use Rattle.session.specs.declared.record.Session.{Session}
 use Rattle.session.specs.Records.{State, sessionSound, sessionTests}
 
-pub record SessionHolds (s : Session) : Type 0 where
-  pub head : headSound (s .head) ≡ true
+pub record SessionHolds (s : Session) (lists : List ℕ) : Type 0 where
+  pub head : headSound (s .head) lists ≡ true
   pub some : 1 ≤ s .planned
   pub few : s .planned ≤ maxBlocks
-  pub counts : (i : ℕ) → i < s .head .n → entry (s .counts) i ≤ s .planned
+  pub counts : (i : ℕ) → i < s .head .n → countOf lists i ≤ s .planned
 
-module _ (s : Session) where
-  pub session-holds : sessionSound s ≡ true → SessionHolds s
+module _ (s : Session) (lists : List ℕ) where
+  pub session-holds : sessionSound s lists ≡ true → SessionHolds s lists
   unfolding sessionSound plannedRule
   session-holds e =
-      let front = and-left _ (allBelow (s .head .n) (λ i. leb (entry (s .counts) i) (s .planned))) e in
-      let range = within-facts 1 maxBlocks (s .planned) (and-right (headSound (s .head)) _ front) in
-      let all = and-right (headSound (s .head) && plannedRule (pos (s .planned))) _ e in
+      let front = and-left _ (allBelow (s .head .n) (λ i. leb (countOf lists i) (s .planned))) e in
+      let range = within-facts 1 maxBlocks (s .planned) (and-right (headSound (s .head) lists) _ front) in
+      let all = and-right (headSound (s .head) lists && plannedRule (pos (s .planned))) _ e in
       record {
         head = and-left _ (plannedRule (pos (s .planned))) front;
         some = range .0;
@@ -37,7 +38,7 @@ module _ (s : Session) where
         counts = λ i l. leb-true _ _ (all-at _ (s .head .n) i l all);
       }
 
-  pub session-sound : SessionHolds s → sessionSound s ≡ true
+  pub session-sound : SessionHolds s lists → sessionSound s lists ≡ true
   unfolding sessionSound plannedRule
   session-sound h =
       rw (h .head, within-holds 1 maxBlocks (s .planned) (h .some) (h .few))
@@ -46,10 +47,10 @@ module _ (s : Session) where
 -- what the three tests ask of a session, its image and its table
 pub record StateHolds (st : State) : Type 0 where
   pub unmarked : st .session .closed ≡ 0
-  pub sound : SessionHolds (st .session)
-  pub image-long : endAt (st .session .head) (st .session .planned) ≤ length (st .image)
+  pub sound : SessionHolds (st .session) (st .lists)
+  pub image-long : endAt (st .session .head) (sizeOf (st .lists)) (st .session .planned) ≤ length (st .image)
   pub table-long : st .session .head .n * st .session .planned ≤ length (st .table)
-  pub agree : cellsAgree (st .session .head) (st .session .planned) (st .session .counts) (st .table) ≡ true
+  pub agree : cellsAgree (st .session .head) (st .lists) (st .session .planned) (st .table) ≡ true
 
 module _ (st : State) where
   pub session-numbered : Numbered (sessionTests st)
@@ -62,7 +63,7 @@ module _ (st : State) where
       let r = record-holds _ _ _ _ _ _ _ e in
       record {
         unmarked = r .unmarked;
-        sound = session-holds (st .session) (r .sound-is);
+        sound = session-holds (st .session) (st .lists) (r .sound-is);
         image-long = r .image-long;
         table-long = r .table-long;
         agree = r .agree;
@@ -73,7 +74,7 @@ module _ (st : State) where
   state-passes h =
       record-passes _ _ _ _ _ _ _ (record {
         unmarked = h .unmarked;
-        sound-is = session-sound (st .session) (h .sound);
+        sound-is = session-sound (st .session) (st .lists) (h .sound);
         image-long = h .image-long;
         table-long = h .table-long;
         agree = h .agree;

@@ -8,12 +8,12 @@ use lib.Dec.{ltb, leb}
 use lib.ListN.{length}
 use borrow.Author.Tests.{ltb-true, ltb-false, leb-true, ne-eqb, not-false}
 use Rattle.endian.proofs.Signed.{InRange, within-facts, within-natural}
-use Rattle.layout.specs.Limits.{maxTasks, maxSize, maxBlocks, Sound}
+use Rattle.layout.specs.Limits.{maxSize, maxBlocks, Sound}
 use Rattle.layout.proofs.Bounds.{sound-size}
 use Rattle.layout.proofs.Chunks.{capacity-small}
 use Rattle.meta.specs.Refusals.{test, firstFailing}
 use Rattle.meta.specs.Meta2.{valueIndex}
-use Rattle.meta.specs.Heads.{entry, cell, holds, cellsAgree, isTask}
+use Rattle.meta.specs.Heads.{cell, allLists, sizesOf, sizeOf, holds, cellsAgree, isTask}
 use Rattle.meta.proofs.Refusals.{both-pass, none-fails}
 use Rattle.meta.proofs.Records.{head-kept}
 use Rattle.meta.proofs.Rules.{valueIndex-lt, values-used}
@@ -59,21 +59,21 @@ module _ (st : State) (q : Request) where
       unfolding inLast
       last-small = last-range .2
 
--- what a request to a task of such a session can count on; a record's lists have an entry for each of the most tasks
+-- what a request to a task of such a session can count on
 pub record Asking (st : State) (q : Request) : Type 0 where
-  pub sound : Sound (st .session .head .blocksize) (st .session .head .n) (st .session .head .sizes)
-  pub size-small : entry (st .session .head .sizes) (q .task - 1) ≤ maxSize
+  pub sound : Sound (st .session .head .blocksize) (st .session .head .n) (sizesOf (st .lists))
+  pub size-small : sizeOf (st .lists) (q .task - 1) ≤ maxSize
   pub room-small : room st q ≤ maxSize
   pub planned-small : st .session .planned ≤ maxBlocks
   pub begun-small : begun st q ≤ st .session .planned
   pub listed : 0 < begun st q → valueIndex (st .session .head .n) (begun st q - 1) (q .task - 1) < length (st .table)
   pub filled : 0 < begun st q → inLast st q ≤ room st q
 
-pub asking : (st : State) (q : Request) → length (st .session .head .sizes) ≡ maxTasks → StateHolds st → 1 ≤ q .task
+pub asking : (st : State) (q : Request) → length (st .lists) ≡ allLists → StateHolds st → 1 ≤ q .task
     → q .task ≤ st .session .head .n → Asking st q
 unfolding room holds
 asking st q long h first last =
-    let s = head-kept (st .session .head) (h .sound .head) long in
+    let s = head-kept (st .session .head) (st .lists) (h .sound .head) long in
     let small = sound-size s (q .task - 1) (omega arith) .1 in
     record {
       sound = s;

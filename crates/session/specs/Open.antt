@@ -6,41 +6,28 @@ use lib.Dec.{ltb, eqb}
 use lib.IntN.{ℤ, pos}
 use lib.ListN.{length, replicate}
 use Rattle.endian.specs.Splice.{splice}
-use Rattle.layout.specs.Limits.{maxTasks, blocksizeRule, tasksRule, ranksRule, sizesRule, plannedRule}
+use Rattle.layout.specs.Limits.{blocksizeRule, tasksRule, ranksRule, sizesRule, plannedRule}
 use Rattle.layout.specs.Areas.{meta2End}
 use Rattle.meta.specs.declared.head.Head.{Head}
 use Rattle.session.specs.declared.record.Session.{Session}
 use Rattle.session.specs.declared.record.Needed.{Needed}
-use Rattle.session.specs.declared.record.Started.{Started}
+use Rattle.session.specs.declared.record.Opened.{Opened}
+use Rattle.session.specs.declared.record.Plan.{Plan}
 use Rattle.meta.specs.Refusals.{Test, test, firstFailing}
 use Rattle.meta.specs.Meta1.{prefixLength, openingBytes}
 use Rattle.meta.specs.Meta2.{unused}
-use Rattle.meta.specs.Heads.{entry, isOrder, tooShort, headOf}
+use Rattle.meta.specs.Heads.{entry, listsOf, noLists, isOrder, tooShort, headOf}
 use Rattle.session.specs.Records.{State, stateOf, sessionOf, noSession}
 
 -- what opening is given beside the image and the table
 pub record Opening : Type 0 where
-  pub order : ℕ
-  pub version : ℤ
-  pub patch : ℤ
-  pub blocksize : ℕ
+  pub plan : Plan
   pub ranks : List ℕ
   pub sizes : List ℕ
   pub prefix : List ℕ
-  pub planned : ℕ
 
-abbrev pub openingOf : ℕ → ℤ → ℤ → ℕ → List ℕ → List ℕ → List ℕ → ℕ → Opening
-openingOf order version patch blocksize ranks sizes prefix planned =
-    record {
-      order = order;
-      version = version;
-      patch = patch;
-      blocksize = blocksize;
-      ranks = ranks;
-      sizes = sizes;
-      prefix = prefix;
-      planned = planned;
-    }
+abbrev pub openingOf : Plan → List ℕ → List ℕ → List ℕ → Opening
+openingOf plan ranks sizes prefix = record { plan = plan; ranks = ranks; sizes = sizes; prefix = prefix }
 
 -- "2, 5, 6, 21": of the order, the blocksize, and how many ranks, sizes and bytes of the prefix there are
 unfoldable pub shapeTests : ℕ → ℕ → ℕ → ℕ → ℕ → List Test
@@ -66,45 +53,49 @@ module _ (o : Opening) where
   -- "2, 5, 6, 21, 8, 9, 20": the tests of the plan
   unfoldable pub planTests : List Test
   planTests =
-      shapeTests (o .order) (o .blocksize) tasks (length (o .sizes)) (length (o .prefix))
-      ++ numberTests (o .ranks) (o .sizes) (o .planned)
+      shapeTests (o .plan .order) (o .plan .blocksize) tasks (length (o .sizes)) (length (o .prefix))
+      ++ numberTests (o .ranks) (o .sizes) (o .plan .planned)
 
   -- what an opening is refused with whatever it is lent, or else the lengths below which it is refused with 18
   unfoldable pub needsAnswer : Needed
   needsAnswer =
       cond (eqb (firstFailing planTests) 0)
-      (record { refusal = 0; image = meta2End (o .blocksize) tasks (entry (o .sizes)) (o .planned); cells = tasks * o .planned })
+      (record { refusal = 0; image = meta2End (o .plan .blocksize) tasks (entry (o .sizes)) (o .plan .planned); cells = tasks * o .plan .planned })
       (record { refusal = firstFailing planTests; image = 0; cells = 0 })
 
   -- then 18: "The image needs D + K·G + 8n(1+K) bytes", the table "at least n times K" cells
   unfoldable pub openRefusal : ℕ → ℕ → ℕ
   openRefusal imageLength cells =
       firstFailing
-      (planTests ++ (test 18 (tooShort (o .blocksize) tasks (entry (o .sizes)) (o .planned) imageLength cells) ∷ []))
+      (planTests ++ (test 18 (tooShort (o .plan .blocksize) tasks (entry (o .sizes)) (o .plan .planned) imageLength cells) ∷ []))
 
   unfoldable pub openHead : Head
-  openHead = headOf (o .order) (o .version) (o .patch) (o .blocksize) tasks (entry (o .ranks)) (entry (o .sizes))
+  openHead = headOf (o .plan .order) (o .plan .version) (o .plan .patch) (o .plan .blocksize) tasks
 
-  -- no chunk begun, the mark unset
+  -- the mark unset
   unfoldable pub openSession : Session
-  openSession = sessionOf openHead (replicate maxTasks 0) (o .planned) 0
+  openSession = sessionOf openHead (o .plan .planned) 0
+
+  -- no chunk begun
+  unfoldable pub openLists : List ℕ
+  openLists = listsOf tasks (entry (o .ranks)) (entry (o .sizes)) (λ i. 0)
 
   module _ (image : List ℕ) (table : List ℤ) where
     unfoldable pub opens : Bool
     opens = eqb (openRefusal (length image) (length table)) 0
 
-    unfoldable pub openAnswer : Started
+    unfoldable pub openAnswer : Opened
     openAnswer =
-        cond opens (record { refusal = 0; session = openSession })
-        (record { refusal = openRefusal (length image) (length table); session = noSession })
+        cond opens (record { session = openSession; lists = openLists; refusal = 0 })
+        (record { session = noSession; lists = noLists; refusal = openRefusal (length image) (length table) })
 
     -- "Opening writes META1 and zeros up to D, and -1 in the first n·K cells. Nothing else changes."
     unfoldable pub openImage : List ℕ
-    openImage = cond opens (splice image 0 (openingBytes openHead (o .prefix))) image
+    openImage = cond opens (splice image 0 (openingBytes openHead (entry (o .ranks)) (entry (o .sizes)) (o .prefix))) image
 
     unfoldable pub openTable : List ℤ
-    openTable = cond opens (splice table 0 (replicate (tasks * o .planned) unused)) table
+    openTable = cond opens (splice table 0 (replicate (tasks * o .plan .planned) unused)) table
 
-    -- the session, the image and the table as an opening hands them back
+    -- the record, the image and the table as an opening hands them back
     abbrev pub opened : State
-    opened = stateOf (openAnswer .session) openImage openTable
+    opened = stateOf (openAnswer .session) (openAnswer .lists) openImage openTable

@@ -1,44 +1,44 @@
 // Opening a session: its tests, its record, and what it stores into the image and the table.
 ghost use mathlib.Core.Path.{_≡_};
-ghost use Prim.Native.Nat.{_≤_};
-ghost use lib.IntN.{ℤ};
+ghost use Prim.Native.Nat.{_+_, _≤_};
 ghost use lib.ListN.{length, replicate};
+ghost use Rattle.endian.specs.Below.{listBelow};
 ghost use Rattle.endian.specs.Splice.{splice};
 ghost use Rattle.layout.specs.Limits.{maxTasks};
-ghost use Rattle.meta.specs.declared.head.Head.{Head};
 ghost use Rattle.meta.specs.Refusals.{firstFailing};
 ghost use Rattle.meta.specs.Meta2.{unused};
-ghost use Rattle.meta.specs.Heads.{entry, filled, headOf};
+ghost use Rattle.meta.specs.Heads.{entry, listsOf, noLists};
+ghost use Rattle.session.specs.declared.record.Plan.{Plan};
 ghost use Rattle.session.specs.declared.record.Needed.{Needed};
-ghost use Rattle.session.specs.declared.record.Started.{Started};
+ghost use Rattle.session.specs.declared.record.Opened.{Opened};
 ghost use Rattle.session.specs.Records.{noSession};
 ghost use Rattle.session.specs.Open.{openingOf, shapeTests, numberTests, needsAnswer, openRefusal, openAnswer, openImage, openTable};
 use crate::record::Needed;
+use crate::record::Opened;
+use crate::record::Plan;
 use crate::record::Session;
-use crate::record::Started;
 use layout::limit;
 use layout::limit::MAX_TASKS;
+use meta::field;
 use meta::head;
 use meta::head::Head;
+use meta::head::LISTS;
 use meta::refusal;
 
-// The bytes that the prefix's field has.
-const PREFIX: usize = 1024;
-
 // A refusal beside a record of zeros marked closed.
-fn refused(refusal: u32) -> Started
-    ensures { λ r. ⌜ r ≡ record { refusal = refusal; session = noSession } ⌝ }
+fn refused(refusal: u32) -> Opened
+    ensures { λ r. ⌜ r ≡ record { session = noSession; lists = noLists; refusal = refusal } ⌝ }
 {
-    let counts = [0; MAX_TASKS];
     let head = head::no_head();
-    Started {
-        refusal,
+    let lists = [0; LISTS];
+    Opened {
         session: Session {
             head,
-            counts,
             planned: 0,
             closed: 1,
         },
+        lists,
+        refusal,
     }
 }
 
@@ -61,7 +61,7 @@ fn shape_refusal(order: u32, blocksize: u32, ranks: usize, sizes: usize, prefix:
     if ranks != sizes {
         return refusal::BAD_TASKS;
     }
-    if PREFIX < prefix {
+    if field::PREFIX < prefix {
         return refusal::LONG_PREFIX;
     }
     0
@@ -85,57 +85,55 @@ fn number_refusal(ranks: &[u64], sizes: &[u64], planned: u32) -> u32
     0
 }
 
-// What an opening needs of the image and the table that it is lent, or the number that it gets whatever it is lent. Tests 2, 5, 6, 21, 8, 9
-// and 20, in this order: none looks at the two version numbers.
-pub fn needs(
-    order: u32,
-    blocksize: u32,
-    ranks: &[u64],
-    sizes: &[u64],
-    prefix: &[u8],
-    planned: u32,
-) -> Needed
-    ensures { λ r. ⌜ ((version patch : ℤ) → r ≡ needsAnswer (openingOf order version patch blocksize (now (ranks .entry)) (now (sizes .entry)) (now (prefix .entry)) planned)) ⌝ }
+fn no_need(refusal: u32) -> Needed
+    ensures { λ r. ⌜ r ≡ record { refusal = refusal; image = 0; cells = 0 } ⌝ }
 {
-    let shape = shape_refusal(order, blocksize, ranks.len(), sizes.len(), prefix.len());
-    if shape != 0 {
-        return Needed {
-            refusal: shape,
-            image: 0,
-            cells: 0,
-        };
+    Needed {
+        refusal,
+        image: 0,
+        cells: 0,
     }
-    let number = number_refusal(ranks, sizes, planned);
+}
+
+// The lengths that an opening requires of image and table, or the refusal of its plan: tests 2, 5, 6, 21, 8, 9 and 20, in this order.
+pub fn needs(plan: Plan, ranks: &[u64], sizes: &[u64], prefix: &[u8]) -> Needed
+    ensures { λ r. ⌜ r ≡ needsAnswer (openingOf plan (now (ranks .entry)) (now (sizes .entry)) (now (prefix .entry))) ⌝ }
+{
+    let shape = shape_refusal(
+        plan.order,
+        plan.blocksize,
+        ranks.len(),
+        sizes.len(),
+        prefix.len(),
+    );
+    if shape != 0 {
+        return no_need(shape);
+    }
+    let number = number_refusal(ranks, sizes, plan.planned);
     if number != 0 {
-        return Needed {
-            refusal: number,
-            image: 0,
-            cells: 0,
-        };
+        return no_need(number);
     }
     let n = ranks.len() as u32;
-    let image = layout::meta2_end(sizes, n, blocksize, planned);
+    let image = layout::meta2_end(sizes, n, plan.blocksize, plan.planned);
     Needed {
         refusal: 0,
         image,
-        cells: n as u64 * planned as u64,
+        cells: n as u64 * plan.planned as u64,
     }
 }
 
 // The plan's tests, then 18.
 fn open_refusal(
-    order: u32,
-    blocksize: u32,
+    plan: Plan,
     ranks: &[u64],
     sizes: &[u64],
     prefix: &[u8],
-    planned: u32,
     image: u64,
     cells: u64,
 ) -> u32
-    ensures { λ r. ⌜ ((version patch : ℤ) → r ≡ openRefusal (openingOf order version patch blocksize (now (ranks .entry)) (now (sizes .entry)) (now (prefix .entry)) planned) image cells) ⌝ }
+    ensures { λ r. ⌜ r ≡ openRefusal (openingOf plan (now (ranks .entry)) (now (sizes .entry)) (now (prefix .entry))) image cells ⌝ }
 {
-    let needed = needs(order, blocksize, ranks, sizes, prefix, planned);
+    let needed = needs(plan, ranks, sizes, prefix);
     if needed.refusal != 0 {
         return needed.refusal;
     }
@@ -148,43 +146,27 @@ fn open_refusal(
     0
 }
 
-// A record's list of these numbers, followed by zeros.
-fn listed(values: &[u64]) -> [u64; MAX_TASKS]
-    requires { ⌜ length (now values) ≤ maxTasks ⌝ }
-    ensures { λ r. ⌜ r ≡ filled (length (now (values .entry))) (entry (now (values .entry))) ⌝ }
+// These numbers into the lists, from `at` on.
+fn put_stripe(lists: &mut [u64], at: usize, values: &[u64])
+    requires { ⌜ at + length (now values) ≤ length (now lists) ⌝ }
+    ensures { λ _. ⌜ now (lists .exit) ≡ splice (now (lists .entry)) at (listBelow (length (now (values .entry))) (entry (now (values .entry)))) ⌝ }
 {
-    let mut list = [0; MAX_TASKS];
     let mut i = 0;
     while i < values.len() {
-        list[i] = values[i];
+        lists[at + i] = values[i];
         i += 1;
     }
-    list
 }
 
-fn head_of(
-    order: u32,
-    version: i32,
-    patch: i32,
-    blocksize: u32,
-    ranks: &[u64],
-    sizes: &[u64],
-) -> Head
+// The lists of a session that has begun no chunk.
+fn lists_of(ranks: &[u64], sizes: &[u64]) -> [u64; LISTS]
     requires { ⌜ (length (now ranks) ≤ maxTasks) × (length (now sizes) ≡ length (now ranks)) ⌝ }
-    ensures { λ r. ⌜ r ≡ headOf order version patch blocksize (length (now (ranks .entry))) (entry (now (ranks .entry))) (entry (now (sizes .entry))) ⌝ }
+    ensures { λ r. ⌜ r ≡ listsOf (length (now (ranks .entry))) (entry (now (ranks .entry))) (entry (now (sizes .entry))) (λ i. 0) ⌝ }
 {
-    let n = ranks.len() as u32;
-    let all_ranks = listed(ranks);
-    let all_sizes = listed(sizes);
-    Head {
-        order,
-        version,
-        patch,
-        blocksize,
-        n,
-        ranks: all_ranks,
-        sizes: all_sizes,
-    }
+    let mut lists = [0; LISTS];
+    put_stripe(&mut lists, 0, ranks);
+    put_stripe(&mut lists, head::SIZES, sizes);
+    lists
 }
 
 // -1 into the first cells.
@@ -200,47 +182,47 @@ fn mark_unused(table: &mut [i64], cells: usize)
 }
 
 // Opens a session of as many tasks as there are ranks: META1 and zeros up to D into the image, -1 into the first cells. Tests 2, 5, 6, 21, 8,
-// 9, 20 and 18, in this order; `order` is 0 for little and 1 for big.
+// 9, 20 and 18, in this order.
 pub fn open(
-    order: u32,
-    version: i32,
-    patch: i32,
-    blocksize: u32,
+    plan: Plan,
     ranks: &[u64],
     sizes: &[u64],
     prefix: &[u8],
-    planned: u32,
     image: &mut [u8],
     table: &mut [i64],
-) -> Started
-    ensures { λ r. ⌜ r ≡ openAnswer (openingOf order version patch blocksize (now (ranks .entry)) (now (sizes .entry)) (now (prefix .entry)) planned) (now (image .entry)) (now (table .entry)) ⌝ }
-    ensures { λ _. ⌜ now (image .exit) ≡ openImage (openingOf order version patch blocksize (now (ranks .entry)) (now (sizes .entry)) (now (prefix .entry)) planned) (now (image .entry)) (now (table .entry)) ⌝ }
-    ensures { λ _. ⌜ now (table .exit) ≡ openTable (openingOf order version patch blocksize (now (ranks .entry)) (now (sizes .entry)) (now (prefix .entry)) planned) (now (image .entry)) (now (table .entry)) ⌝ }
+) -> Opened
+    ensures { λ r. ⌜ r ≡ openAnswer (openingOf plan (now (ranks .entry)) (now (sizes .entry)) (now (prefix .entry))) (now (image .entry)) (now (table .entry)) ⌝ }
+    ensures { λ _. ⌜ now (image .exit) ≡ openImage (openingOf plan (now (ranks .entry)) (now (sizes .entry)) (now (prefix .entry))) (now (image .entry)) (now (table .entry)) ⌝ }
+    ensures { λ _. ⌜ now (table .exit) ≡ openTable (openingOf plan (now (ranks .entry)) (now (sizes .entry)) (now (prefix .entry))) (now (image .entry)) (now (table .entry)) ⌝ }
 {
     let refusal = open_refusal(
-        order,
-        blocksize,
+        plan,
         ranks,
         sizes,
         prefix,
-        planned,
         image.len() as u64,
         table.len() as u64,
     );
     if refusal != 0 {
         return refused(refusal);
     }
-    let head = head_of(order, version, patch, blocksize, ranks, sizes);
-    emit::meta1(image, head, prefix);
-    mark_unused(table, ranks.len() * planned as usize);
-    let counts = [0; MAX_TASKS];
-    Started {
-        refusal: 0,
+    let head = Head {
+        order: plan.order,
+        version: plan.version,
+        patch: plan.patch,
+        blocksize: plan.blocksize,
+        n: ranks.len() as u32,
+    };
+    let lists = lists_of(ranks, sizes);
+    emit::meta1(image, head, &lists, prefix);
+    mark_unused(table, ranks.len() * plan.planned as usize);
+    Opened {
         session: Session {
             head,
-            counts,
-            planned,
+            planned: plan.planned,
             closed: 0,
         },
+        lists,
+        refusal: 0,
     }
 }

@@ -1,14 +1,24 @@
-// The record of a session, and what its entries answer. In every answer `refusal` is 0 or a number of `meta::refusal`.
-use layout::limit::MAX_TASKS;
+// The record of a session, what an opening is given, and what a session's entries answer. A record is its numbers, by value, and its lists,
+// `[u64; LISTS]` of `meta::head`. In every answer `refusal` is 0 or a number of `meta::refusal`.
 use meta::head::Head;
+use meta::head::LISTS;
 
-// An open session: chunks begun by each task, the planned blocks K, and the closed mark, 0 where it is unset.
+// The numbers of a session: the planned blocks K, and the closed mark, 0 where it is unset. Its counts are the chunks begun by each task.
 #[repr(C)]
 pub struct Session {
     pub head: Head,
-    pub counts: [u64; MAX_TASKS],
     pub planned: u32,
     pub closed: u32,
+}
+
+// What an opening is given beside ranks, sizes and prefix; `order` is 0 for little and 1 for big.
+#[repr(C)]
+pub struct Plan {
+    pub order: u32,
+    pub version: i32,
+    pub patch: i32,
+    pub blocksize: u32,
+    pub planned: u32,
 }
 
 // What an opening needs: the bytes of its image and the cells of its table.
@@ -19,21 +29,12 @@ pub struct Needed {
     pub cells: u64,
 }
 
-// The numbers of a session's record that a write goes by. The record's three lists are lent beside them, so that no record is copied.
+// What opening answers, with the whole record.
 #[repr(C)]
-pub struct Facts {
-    pub order: u32,
-    pub blocksize: u32,
-    pub n: u32,
-    pub planned: u32,
-    pub closed: u32,
-}
-
-// What opening answers.
-#[repr(C)]
-pub struct Started {
-    pub refusal: u32,
+pub struct Opened {
     pub session: Session,
+    pub lists: [u64; LISTS],
+    pub refusal: u32,
 }
 
 // What closing answers, with the container's length.

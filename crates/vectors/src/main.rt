@@ -5,6 +5,7 @@ use line::LINE;
 use line::input;
 use line::input::INPUT;
 use line::input::LONGEST;
+use meta::head::LISTS;
 use reading::record::Loaded;
 
 const CELLS: usize = 2_048;
@@ -45,11 +46,20 @@ fn add(sum: Sum, bytes: &[u8]) -> Sum {
 }
 
 // The parts of a task's chunks, up to the first that is refused.
-fn add_parts(sum: Sum, l: Loaded, image: &[u8], table: &[i64], task: u64) -> Sum {
+fn add_parts(
+    sum: Sum,
+    l: Loaded,
+    lists: &[u64; LISTS],
+    image: &[u8],
+    table: &[i64],
+    task: u64,
+) -> Sum {
     let mut sum = sum;
     let mut chunk = 1;
-    while chunk <= MOST_CHUNKS && container::chunk_refusal(l, image, table, task, chunk) == 0 {
-        sum = add(sum, container::chunk(l, image, table, task, chunk));
+    while chunk <= MOST_CHUNKS
+        && container::chunk_refusal(l, lists, image, table, task, chunk) == 0
+    {
+        sum = add(sum, container::chunk(l, lists, image, table, task, chunk));
         chunk += 1;
     }
     sum
@@ -71,9 +81,17 @@ struct Piece {
     whole: bool,
 }
 
-fn add_piece(sum: Sum, l: Loaded, image: &[u8], table: &[i64], task: u64, p: u64) -> Piece {
+fn add_piece(
+    sum: Sum,
+    l: Loaded,
+    lists: &[u64; LISTS],
+    image: &[u8],
+    table: &[i64],
+    task: u64,
+    p: u64,
+) -> Piece {
     let mut piece = [0u8; PIECE];
-    let copied = container::read(l, image, table, task, p, &mut piece);
+    let copied = container::read(l, lists, image, table, task, p, &mut piece);
     let k = counted(copied.bytes, &piece);
     let sum = add(sum, &piece[..k]);
     Piece {
@@ -83,11 +101,18 @@ fn add_piece(sum: Sum, l: Loaded, image: &[u8], table: &[i64], task: u64, p: u64
 }
 
 // A task's stream, piece by piece, up to the first that is not whole.
-fn add_stream(sum: Sum, l: Loaded, image: &[u8], table: &[i64], task: u64) -> Sum {
+fn add_stream(
+    sum: Sum,
+    l: Loaded,
+    lists: &[u64; LISTS],
+    image: &[u8],
+    table: &[i64],
+    task: u64,
+) -> Sum {
     let mut sum = sum;
     let mut p = 0;
     while p <= MOST_BYTES {
-        let piece = add_piece(sum, l, image, table, task, p);
+        let piece = add_piece(sum, l, lists, image, table, task, p);
         sum = piece.sum;
         if !piece.whole {
             return sum;
@@ -109,14 +134,14 @@ fn print_sum(sum: Sum) {
     );
 }
 
-fn print_sums(l: Loaded, image: &[u8], table: &[i64]) {
+fn print_sums(l: Loaded, lists: &[u64; LISTS], image: &[u8], table: &[i64]) {
     let n = l.head.n as u64;
     let mut parts = Sum { a: 1, b: 0 };
     let mut streams = Sum { a: 1, b: 0 };
     let mut task = 0;
     while task < n {
-        parts = add_parts(parts, l, image, table, task + 1);
-        streams = add_stream(streams, l, image, table, task + 1);
+        parts = add_parts(parts, l, lists, image, table, task + 1);
+        streams = add_stream(streams, l, lists, image, table, task + 1);
         task += 1;
     }
     print(b" | ");
@@ -148,7 +173,8 @@ fn print_container(image: &[u8]) {
     let answer = container::load(image, &mut table);
     if answer.refusal == 0 {
         let l = answer.loaded;
-        print_sums(l, image, &table);
+        let lists = answer.lists;
+        print_sums(l, &lists, image, &table);
         print_short(image, &mut table, one_fewer(l.head.n, l.maxchunks));
     }
 }

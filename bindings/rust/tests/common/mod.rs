@@ -1,7 +1,7 @@
 //! Holds what the tests share: memory with something in it, the paper's session and its container.
 #![allow(dead_code)] // each test file is a program of its own and uses some of it
 
-use sion::{ByteOrder, Plan, Refusal, CELLS};
+use lapurmihi::{ByteOrder, Plan, Refusal, CELLS};
 
 pub const ORDERS: [ByteOrder; 2] = [ByteOrder::Little, ByteOrder::Big];
 

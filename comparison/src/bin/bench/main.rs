@@ -1,5 +1,5 @@
 //! Times the library against the reference and against a plain copy, on the same bytes in turns of one run, and prints the ratios of their
-//! times: loading, the reads, writing and closing.
+//! times: loading, the reads, writing, opening and closing.
 
 mod reads;
 mod rounds;

@@ -28,6 +28,16 @@ pub fn in_words(bytes: usize) -> String {
     }
 }
 
+/// A number of tasks as a person writes it.
+pub fn tasks_in_words(tasks: usize) -> String {
+    format!("{tasks} task{}", if tasks == 1 { "" } else { "s" })
+}
+
+/// Tasks that have so many chunks each.
+pub fn chunks_in_words(tasks: usize, chunks: usize) -> String {
+    format!("{} x {chunks} chunk{}", tasks_in_words(tasks), if chunks == 1 { "" } else { "s" })
+}
+
 /// Lets each side take its turns, each of which gives the nanoseconds of one call, and prints the line about them.
 pub fn compare(
     what: &str,

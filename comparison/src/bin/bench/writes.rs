@@ -1,30 +1,34 @@
-//! Holds the times of writes of three lengths, to a session of 64 tasks and to one of a single task, and of a close.
+//! Holds the times of writes of three lengths, to a session of 64 tasks and to one of a single task, of an opening and of a close.
 
-use crate::rounds::{compare, in_words, time};
+use crate::rounds::{chunks_in_words, compare, in_words, tasks_in_words, time};
 use comparison::session_of;
-use sion::raw::{self, Session};
+use lapurmihi::raw::{self, Plan, Session};
 use std::hint::black_box;
 
 /// Lengths of a write, each with the writes in a turn to 64 tasks and to one: a turn takes some milliseconds.
 const WRITES: [(usize, [usize; 2]); 3] =
     [(64, [2_000, 50_000]), (4_096, [2_000, 6_000]), (65_536, [200, 400])];
-/// Closes in a turn.
+/// Openings and closes in a turn.
+const OPENINGS: usize = 10_000;
 const CLOSES: usize = 1_000;
+/// The planned blocks of most sessions.
 const K: u32 = 32;
 const BLOCKSIZE: u32 = 4_096;
 
 pub fn all() {
     for (at, (tasks, size)) in [(64, 131_072), (1, 1 << 20)].into_iter().enumerate() {
-        let mut both = [Lent::new(tasks, size), Lent::new(tasks, size)];
+        let mut both = [Lent::new(tasks, size, K), Lent::new(tasks, size, K)];
         for (length, writes) in WRITES {
             write(&mut both, &vec![1; length], writes[at]);
         }
     }
-    close(&mut [Lent::new(64, 4_096), Lent::new(64, 4_096)]);
+    open(&mut [Lent::new(1, 32_768, 1), Lent::new(1, 32_768, 1)]);
+    close(&mut [Lent::new(64, 4_096, K), Lent::new(64, 4_096, K)]);
 }
 
 /// The image and the table that one side is lent, and the plan of the session.
 struct Lent {
+    k: u32,
     ranks: Vec<u64>,
     sizes: Vec<u64>,
     image: Vec<u8>,
@@ -32,23 +36,23 @@ struct Lent {
 }
 
 impl Lent {
-    fn new(tasks: usize, size: u64) -> Lent {
+    fn new(tasks: usize, size: u64, k: u32) -> Lent {
         let (ranks, sizes): (Vec<u64>, _) = ((0..tasks as u64).collect(), vec![size; tasks]);
-        let needed = raw::needs(0, BLOCKSIZE, &ranks, &sizes, b"", K);
+        let needed = raw::needs(plan(k), &ranks, &sizes, b"");
         let (image, table) = (vec![0; needed.image as usize], vec![0; needed.cells as usize]);
-        Lent { ranks, sizes, image, table }
+        Lent { k, ranks, sizes, image, table }
     }
 
     fn open_ours(&mut self) -> Session {
-        let Lent { ranks, sizes, image, table } = self;
-        let opened = raw::open(0, 1, 7, BLOCKSIZE, ranks, sizes, b"", K, image, table);
+        let Lent { k, ranks, sizes, image, table } = self;
+        let opened = raw::open(plan(*k), ranks, sizes, b"", image, table);
         assert_eq!(opened.refusal, 0, "the session opens");
         opened.session
     }
 
     fn open_theirs(&mut self) -> reference::Session {
-        let Lent { ranks, sizes, image, table } = self;
-        let opened = reference::open(0, 1, 7, BLOCKSIZE, ranks, sizes, b"", K, image, table);
+        let Lent { k, ranks, sizes, image, table } = self;
+        let opened = reference::open(0, 1, 7, BLOCKSIZE, ranks, sizes, b"", *k, image, table);
         opened.expect("the session opens")
     }
 
@@ -99,6 +103,11 @@ impl Lent {
     }
 }
 
+/// The numbers that every session is opened with.
+fn plan(k: u32) -> Plan {
+    Plan { order: 0, version: 1, patch: 7, blocksize: BLOCKSIZE, planned: k }
+}
+
 /// Both sides once to see that they agree, then the rounds; every turn starts from a session just opened.
 fn write([left, right]: &mut [Lent; 2], bytes: &[u8], writes: usize) {
     let (session, other) = (left.ours(bytes, writes).1, right.theirs(bytes, writes).1);
@@ -108,30 +117,51 @@ fn write([left, right]: &mut [Lent; 2], bytes: &[u8], writes: usize) {
     assert!(places.iter().all(|&at| left.image[at..at + bytes.len()] == *bytes), "bytes are there");
 
     let tasks = left.ranks.len();
-    let what = format!(
-        "write {}, {tasks} task{}",
-        in_words(bytes.len()),
-        if tasks == 1 { "" } else { "s" }
-    );
-    let mut plain = Lent::new(tasks, left.sizes[0]);
+    let what = format!("write {}, {}", in_words(bytes.len()), tasks_in_words(tasks));
+    let mut plain = Lent::new(tasks, left.sizes[0], K);
     let mut copy = || plain.copies(bytes, &places);
     let (ours, theirs) = (|| left.ours(bytes, writes).0, || right.theirs(bytes, writes).0);
     compare(&what, ours, theirs, Some(&mut copy));
 }
 
-/// Closes of a session in which every task has filled every chunk.
+/// Openings over the same memory again and again.
+fn open([left, right]: &mut [Lent; 2]) {
+    let (session, other) = (left.open_ours(), right.open_theirs());
+    assert_eq!(session, session_of(&other), "both records agree");
+    assert!(left.image == right.image && left.table == right.table, "both sides agree");
+
+    let what = format!("open, {}", chunks_in_words(left.ranks.len(), left.k as usize));
+    let ours = || {
+        time(OPENINGS, |_| {
+            let Lent { k, ranks, sizes, image, table } = black_box(&mut *left);
+            black_box(raw::open(plan(*k), ranks, sizes, b"", image, table));
+        })
+    };
+    let theirs = || {
+        time(OPENINGS, |_| {
+            let Lent { k, ranks, sizes, image, table } = black_box(&mut *right);
+            let opened = reference::open(0, 1, 7, BLOCKSIZE, ranks, sizes, b"", *k, image, table);
+            let _ = black_box(opened);
+        })
+    };
+    compare(&what, ours, theirs, None);
+}
+
+/// Closes of a session in which every task has filled every chunk; each finds the closed mark unset again.
 fn close([left, right]: &mut [Lent; 2]) {
     let bytes = vec![1; left.sizes[0] as usize];
-    let writes = left.ranks.len() * K as usize;
-    let (session, mut other) = (left.ours(&bytes, writes).1, right.theirs(&bytes, writes).1);
-    let closed = raw::close(session, &mut left.image, &left.table);
+    let writes = left.ranks.len() * left.k as usize;
+    let (mut session, mut other) = (left.ours(&bytes, writes).1, right.theirs(&bytes, writes).1);
+    let closed = raw::close(&mut session, &mut left.image, &left.table);
     let length = reference::close(&mut other, &mut right.image, &right.table);
     assert_eq!((closed.refusal, Ok(closed.length)), (0, length), "both sides close");
-    assert!(left.image == right.image, "both images agree");
+    assert!(session == session_of(&other) && left.image == right.image, "both sides agree");
 
+    let what = format!("close, {}", chunks_in_words(left.ranks.len(), left.k as usize));
     let ours = || {
         time(CLOSES, |_| {
-            black_box(raw::close(black_box(session), &mut left.image, &left.table));
+            session.numbers.closed = 0;
+            black_box(raw::close(black_box(&mut session), &mut left.image, &left.table));
         })
     };
     let theirs = || {
@@ -141,5 +171,5 @@ fn close([left, right]: &mut [Lent; 2]) {
                 black_box(reference::close(black_box(&mut other), &mut right.image, &right.table));
         })
     };
-    compare("close, 64 tasks x 32 chunks", ours, theirs, None);
+    compare(&what, ours, theirs, None);
 }

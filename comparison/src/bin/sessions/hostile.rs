@@ -2,7 +2,8 @@
 
 use crate::plan::Plan;
 use crate::twin::Twin;
-use reference::{Rng, Session};
+use lapurmihi::TASKS;
+use reference::{Head, Rng, Session};
 
 /// Changes one thing; gives the number that every call must then answer, or none where that depends on more than the change.
 pub fn change(twin: &mut Twin, plan: &Plan, rng: &mut Rng) -> Option<u32> {
@@ -41,7 +42,7 @@ fn spoil_record(session: &mut Session, rng: &mut Rng) {
         2 => head.n = rng.pick(&[0, 65, u32::MAX]),
         3 => head.counts[task] = rng.pick(&[u64::from(*k) + 1, u64::MAX]),
         4 => *k = rng.pick(&[0, 33, u32::MAX]),
-        5 => head.closed = rng.pick(&[1, 7]),
+        5 => head.closed = rng.pick(&[1, 7, u32::MAX]),
         6 if n > 1 => head.ranks[task] = head.ranks[(task + 1 + rng.below(n - 1)) % n],
         6 | 7 => head.ranks[task] = rng.pick(&[1 << 31, u64::MAX]),
         _ => head.sizes[task] = rng.pick(&[0, 1_073_741_825, u64::MAX]),
@@ -73,19 +74,26 @@ fn change_record(session: &mut Session, rng: &mut Rng) {
     let Session { head, k } = session;
     let n = head.n as usize;
     let task = rng.below(n);
-    match rng.below(9) {
+    match rng.below(11) {
         0 => head.version = rng.number() as i32,
-        1 => head.order = 1 - head.order,
-        2 => head.blocksize = rng.pick(&[head.blocksize / 2, 2 * head.blocksize]),
-        3 => head.n = rng.pick(&[head.n - 1, head.n + 1]),
-        4 => *k = rng.pick(&[*k - 1, *k + 1]),
-        5 => head.counts[task] = rng.pick(&[head.counts[task] + 1, u64::from(*k)]),
-        6 => head.sizes[task] = rng.pick(&[1, head.sizes[task] + 1, 1_073_741_824]),
-        7 if n < 64 => {
-            let list = rng.below(3);
-            [&mut head.ranks, &mut head.sizes, &mut head.counts][list][63] = rng.number();
-        }
+        1 => head.patch = rng.number() as i32,
+        2 => head.order = 1 - head.order,
+        3 => head.blocksize = rng.pick(&[head.blocksize / 2, 2 * head.blocksize]),
+        4 => head.n = rng.pick(&[head.n - 1, head.n + 1]),
+        5 => *k = rng.pick(&[*k - 1, *k + 1]),
+        6 => head.counts[task] = rng.pick(&[head.counts[task] + 1, u64::from(*k)]),
+        7 => head.sizes[task] = rng.pick(&[1, head.sizes[task] + 1, 1_073_741_824]),
+        8 | 9 if n < TASKS => fill_behind(head, rng),
         _ => head.ranks[task] = rng.below(1 << 31) as u64,
+    }
+}
+
+/// Any of the lists past n, where its entries are not judged.
+pub fn fill_behind(head: &mut Head, rng: &mut Rng) {
+    for list in [&mut head.ranks, &mut head.sizes, &mut head.counts] {
+        if rng.one_in(2) {
+            list[head.n as usize..].fill_with(|| rng.number());
+        }
     }
 }
 

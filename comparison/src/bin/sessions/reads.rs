@@ -1,10 +1,11 @@
 //! Holds the reads of a loaded container, the library's against the reference's: all of it, and then a copy in which one thing is changed.
 
 use crate::counts::Counts;
+use crate::hostile::fill_behind;
 use crate::same::{same, same_list};
 use comparison::loaded_of;
+use lapurmihi::{raw, TASKS};
 use reference::{Loaded, Rng};
-use sion::raw;
 
 /// A loaded container.
 #[derive(Clone)]
@@ -32,7 +33,7 @@ pub fn compare(opened: &Opened, rng: &mut Rng, counts: &mut Counts) -> Result<()
 
 impl Opened {
     fn chunk(&self, task: u64, chunk: u64, counts: &mut Counts) -> Result<(), String> {
-        let part = raw::chunk(loaded_of(&self.record), &self.image, &self.table, task, chunk);
+        let part = raw::chunk(&loaded_of(&self.record), &self.image, &self.table, task, chunk);
         let bytes = &self.image[part.start as usize..][..part.length as usize];
         let wanted = reference::chunk(&self.record, &self.image, &self.table, task, chunk);
         counts.add(part.refusal);
@@ -48,7 +49,7 @@ impl Opened {
     /// A task's total, and a read from a random place in its stream, or from just behind it.
     fn stream(&self, task: u64, rng: &mut Rng, counts: &mut Counts) -> Result<(), String> {
         let record = loaded_of(&self.record);
-        let counted = raw::total(record, &self.image, &self.table, task);
+        let counted = raw::total(&record, &self.image, &self.table, task);
         let wanted = reference::total(&self.record, &self.image, &self.table, task);
         let call = format!("task {task}");
         counts.add(counted.refusal);
@@ -60,7 +61,7 @@ impl Opened {
         let length = rng.pick(&[0, 1, length, total, total + 9]);
         let before = rng.bytes(length);
         let (mut out, mut other) = (before.clone(), before);
-        let counted = raw::read(record, &self.image, &self.table, task, place, &mut out);
+        let counted = raw::read(&record, &self.image, &self.table, task, place, &mut out);
         let wanted =
             reference::read(&self.record, &self.image, &self.table, task, place, &mut other);
         counts.add(counted.refusal);
@@ -71,7 +72,7 @@ impl Opened {
 }
 
 /// The count beside no refusal, or the number beside the count 0.
-fn answer(counted: raw::Counted) -> Result<u64, u32> {
+fn answer(counted: raw::ByteCount) -> Result<u64, u32> {
     match counted.refusal {
         0 => Ok(counted.bytes),
         number if counted.bytes == 0 => Err(number),
@@ -83,8 +84,8 @@ fn answer(counted: raw::Counted) -> Result<u64, u32> {
 fn change(opened: &mut Opened, rng: &mut Rng) {
     let Opened { record: Loaded { head, maxchunks }, image, table } = opened;
     let task = rng.below(head.n as usize);
-    match rng.below(10) {
-        0 => head.closed = rng.pick(&[1, 7]),
+    match rng.below(13) {
+        0 => head.closed = rng.pick(&[1, 7, u32::MAX]),
         1 => head.order = rng.pick(&[1 - head.order, 2]),
         2 => head.blocksize = rng.pick(&[768, 2 * head.blocksize]),
         3 => head.n = rng.pick(&[0, 65, head.n - 1, head.n + 1]),
@@ -93,7 +94,10 @@ fn change(opened: &mut Opened, rng: &mut Rng) {
         6 => head.counts[task] = rng.pick(&[0, 33, head.counts[task] + 1]),
         7 => *maxchunks = rng.pick(&[*maxchunks + 1, 33]),
         8 => image.truncate(rng.pick(&[image.len() - 60, 1_088])),
-        _ if table.is_empty() => head.version += 1,
+        9 => head.version = rng.number() as i32,
+        10 => head.patch = rng.number() as i32,
+        11 if (head.n as usize) < TASKS => fill_behind(head, rng),
+        _ if table.is_empty() => head.order = u32::MAX,
         _ if rng.one_in(3) => drop(table.pop()),
         _ => {
             let at = rng.below(table.len());

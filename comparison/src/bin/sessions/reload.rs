@@ -4,9 +4,9 @@ use crate::counts::Counts;
 use crate::reads::{self, Opened};
 use crate::same::{same, same_list, same_loaded};
 use crate::twin::Twin;
-use comparison::{head_of, loaded_of};
-use reference::Rng;
-use sion::raw::{self, Loaded};
+use comparison::loaded_of;
+use lapurmihi::raw;
+use reference::{Head, Loaded, Rng};
 
 /// The most bytes behind the container.
 const BEHIND: usize = 50;
@@ -28,7 +28,7 @@ pub fn reload(
     let mut table = before.clone();
     let answer = raw::load(&image, &mut table);
     same("answer to the load", answer.refusal, 0)?;
-    same_loaded(&answer.loaded, &wanted)?;
+    same_loaded(&answer.loaded, &loaded_of(&wanted))?;
     same_list("loaded cells", &table, &[&twin.table()[..cells], &before[cells..]].concat())?;
 
     let mut table = before;
@@ -46,7 +46,7 @@ pub fn reload(
 
 /// The record that the load of a closed session's container gives.
 fn expected(twin: &Twin) -> Loaded {
-    let head = &twin.session().head;
+    let head = Head { closed: 0, ..twin.session().head.clone() };
     let maxchunks = head.counts.iter().max().map_or(0, |&most| most as u32);
-    Loaded { head: head_of(head), counts: head.counts, maxchunks, closed: 0 }
+    Loaded { head, maxchunks }
 }

@@ -1,6 +1,6 @@
 //! Holds the comparisons: each passes, or says in words what the library has and what is wanted by the reference or the paper.
 
-use sion::raw::{Head, Loaded, Session};
+use lapurmihi::raw::{Loaded, LoadedNumbers, Session, SessionNumbers};
 use std::fmt::Debug;
 
 pub fn same<T: PartialEq + Debug>(what: &str, library: T, wanted: T) -> Result<(), String> {
@@ -27,25 +27,31 @@ pub fn same_list<T: PartialEq + Debug>(
 }
 
 pub fn same_session(library: &Session, wanted: &Session) -> Result<(), String> {
-    same_head(&library.head, &wanted.head)?;
-    same_list("record's counts", &library.counts, &wanted.counts)?;
-    same("record's K", library.planned, wanted.planned)?;
-    same("record's closed mark", library.closed, wanted.closed)
+    let Session { numbers, ranks, sizes, counts } = library;
+    let SessionNumbers { order, version, patch, blocksize, n, planned, closed } = *numbers;
+    same("record's order", order, wanted.numbers.order)?;
+    same("record's version", version, wanted.numbers.version)?;
+    same("record's patch level", patch, wanted.numbers.patch)?;
+    same("record's blocksize", blocksize, wanted.numbers.blocksize)?;
+    same("record's n", n, wanted.numbers.n)?;
+    same("record's K", planned, wanted.numbers.planned)?;
+    same("record's closed mark", closed, wanted.numbers.closed)?;
+    same_list("record's ranks", ranks, &wanted.ranks)?;
+    same_list("record's sizes", sizes, &wanted.sizes)?;
+    same_list("record's counts", counts, &wanted.counts)
 }
 
 pub fn same_loaded(library: &Loaded, wanted: &Loaded) -> Result<(), String> {
-    same_head(&library.head, &wanted.head)?;
-    same_list("loaded counts", &library.counts, &wanted.counts)?;
-    same("loaded maxchunks", library.maxchunks, wanted.maxchunks)?;
-    same("loaded closed mark", library.closed, wanted.closed)
-}
-
-fn same_head(library: &Head, wanted: &Head) -> Result<(), String> {
-    same("record's order", library.order, wanted.order)?;
-    same("record's version", library.version, wanted.version)?;
-    same("record's patch level", library.patch, wanted.patch)?;
-    same("record's blocksize", library.blocksize, wanted.blocksize)?;
-    same("record's n", library.n, wanted.n)?;
-    same_list("record's ranks", &library.ranks, &wanted.ranks)?;
-    same_list("record's sizes", &library.sizes, &wanted.sizes)
+    let Loaded { numbers, ranks, sizes, counts } = library;
+    let LoadedNumbers { order, version, patch, blocksize, n, maxchunks, closed } = *numbers;
+    same("loaded order", order, wanted.numbers.order)?;
+    same("loaded version", version, wanted.numbers.version)?;
+    same("loaded patch level", patch, wanted.numbers.patch)?;
+    same("loaded blocksize", blocksize, wanted.numbers.blocksize)?;
+    same("loaded n", n, wanted.numbers.n)?;
+    same("loaded maxchunks", maxchunks, wanted.numbers.maxchunks)?;
+    same("loaded closed mark", closed, wanted.numbers.closed)?;
+    same_list("loaded ranks", ranks, &wanted.ranks)?;
+    same_list("loaded sizes", sizes, &wanted.sizes)?;
+    same_list("loaded counts", counts, &wanted.counts)
 }

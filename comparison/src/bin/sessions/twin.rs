@@ -3,8 +3,8 @@
 use crate::plan::Plan;
 use crate::same::{same, same_list, same_session};
 use comparison::session_of;
+use lapurmihi::raw::{self, Session};
 use reference::Rng;
-use sion::raw::{self, Session};
 
 /// Bytes and cells behind the lent ones, which no call may change either.
 const BEHIND: usize = 8;
@@ -57,8 +57,7 @@ impl Twin {
     /// Closes the session, and gives the answer and the length.
     pub fn close(&mut self) -> Result<(u32, u64), String> {
         let Side { session, image, table } = &mut self.library;
-        let closed = raw::close(*session, &mut image[..self.bytes], &table[..self.cells]);
-        *session = closed.session;
+        let closed = raw::close(session, &mut image[..self.bytes], &table[..self.cells]);
 
         let Side { session, image, table } = &mut self.reference;
         let answer = reference::close(session, &mut image[..self.bytes], &table[..self.cells]);
@@ -109,8 +108,7 @@ impl Twin {
 
 /// What an opening needs: its number, if that is not for what it was lent, or the paper's lengths.
 fn needs(plan: &Plan, number: u32) -> Result<(), String> {
-    let Plan { order, blocksize, ranks, sizes, prefix, k, .. } = plan;
-    let needed = raw::needs(*order, *blocksize, ranks, sizes, prefix, *k);
+    let needed = raw::needs(numbers(plan), &plan.ranks, &plan.sizes, &plan.prefix);
     let wanted = match number {
         0 | 18 => (0, plan.needed_bytes() as u64, plan.needed_cells() as u64),
         number => (number, 0, 0),
@@ -118,17 +116,19 @@ fn needs(plan: &Plan, number: u32) -> Result<(), String> {
     same("what the opening needs", (needed.refusal, needed.image, needed.cells), wanted)
 }
 
+/// What of a plan is neither a list nor the prefix, as the library is given it.
+fn numbers(plan: &Plan) -> raw::Plan {
+    let Plan { order, version, patch, blocksize, k: planned, .. } = *plan;
+    raw::Plan { order, version, patch, blocksize, planned }
+}
+
 /// The library's answer to an opening, and what it left.
 fn library_open(plan: &Plan, mut image: Vec<u8>, mut table: Vec<i64>) -> (u32, Side<Session>) {
     let answer = raw::open(
-        plan.order,
-        plan.version,
-        plan.patch,
-        plan.blocksize,
+        numbers(plan),
         &plan.ranks,
         &plan.sizes,
         &plan.prefix,
-        plan.k,
         &mut image[..plan.bytes],
         &mut table[..plan.cells],
     );

@@ -12,6 +12,22 @@ use borrow.Author.Needs.{needs}
 use Rattle.line.proofs.line.Statement.{statement}
 use Rattle.line.proofs.line.Tie as tie
 
+-- from each step back to the one before it, and to the start
+abbrev start : tie.After-load → tie.Start
+start c = c .before .before .before
+
+abbrev from-number : tie.After-put-number → tie.After-load
+from-number c = c .before .before .before
+
+abbrev from-second : tie.After-put-spaced → tie.Else1
+from-second c = let l = c .before .before .before in l .before .before
+
+abbrev from-third : tie.After-put-spaced2 → tie.After-put-spaced
+from-third c = c .before .before .before
+
+abbrev from-totals : tie.After-put-totals-arg → tie.After-put-spaced2
+from-totals c = c .before .before .before
+
 slice-aggregate-load : tie.Need-slice-aggregate-load
 slice-aggregate-load c = search needs
 
@@ -27,8 +43,9 @@ put-number-requires c κs = search needs
 returns : tie.Need-returns
 returns c =
     let p = c .before .put-number in
-    let j = c .before .before .before .before .load in
-    let a = c .before .before .before .before .before .before .before .args in
+    let l = from-number (c .before) in
+    let j = l .load in
+    let a = start l .args in
     line-put (a .image .now) (a .out .now)
     (refused-line (a .image .now) (j .result) (j .last .1 .0) (j .ensures .0) (j .ensures .1) (c .if1 .taken))
     (omega (arith, p .ensures .1 .1)) (p .ensures .0, p .ensures .1 .0)
@@ -50,36 +67,39 @@ slice-aggregate-put-totals c = search needs
 
 put-totals-requires : tie.Need-put-totals-requires
 put-totals-requires c κs =
-    let q = c .before .before .put-spaced2 in
-    let r = c .before .before .before .before .before .put-spaced in
-    let p = c .before .before .before .before .before .before .before .before .before .before .put-number in
-    let j = c .before .before .before .before .before .before .before .before .before .before .before .before .before .load in
-    let a = c .before .before .before .before .before .before .before .before .before .before .before .before .before .before .before .before .args in
-    let none = c .before .before .before .before .before .before .before .before .before .if1 .left in
-    let few = few-tasks (a .image .now) (replicate cells (pos 0)) (j .result) (j .ensures .0) none in
-    omega (arith, p .ensures .1 .1, r .ensures .1 .1, q .ensures .1 .1)
+    let third = from-totals c in
+    let second = from-third third in
+    let e = from-second second in
+    let l = from-number (e .before) in
+    let j = l .load in
+    let few = few-tasks (start l .args .image .now) (replicate cells (pos 0)) (j .result) (j .ensures .0) (e .if1 .left) in
+    omega (arith, e .before .put-number .ensures .1 .1, second .put-spaced .ensures .1 .1, third .put-spaced2 .ensures .1 .1)
 
 returns-2 : tie.Need-returns-2
 returns-2 c =
+    let third = from-totals (c .before) in
+    let second = from-third third in
+    let e = from-second second in
+    let load = from-number (e .before) in
+    let p = e .before .put-number in
+    let r = second .put-spaced in
+    let q = third .put-spaced2 in
     let s = c .put-totals in
-    let q = c .before .before .before .put-spaced2 in
-    let r = c .before .before .before .before .before .before .put-spaced in
-    let p = c .before .before .before .before .before .before .before .before .before .before .before .put-number in
-    let j = c .before .before .before .before .before .before .before .before .before .before .before .before .before .before .load in
-    let a = c .before .before .before .before .before .before .before .before .before .before .before .before .before .before .before .before .before .args in
-    let none = c .before .before .before .before .before .before .before .before .before .before .if1 .left in
+    let j = load .load in
+    let a = start load .args in
     let l = j .result .loaded in
-    let few = few-tasks (a .image .now) (replicate cells (pos 0)) (j .result) (j .ensures .0) none in
-    let fits : s .result ≤ length (a .out .now) = omega (arith, p .ensures .1 .1, r .ensures .1 .1, q .ensures .1 .1, s .ensures .1 .1) in
-    let second =
+    let few = few-tasks (a .image .now) (replicate cells (pos 0)) (j .result) (j .ensures .0) (e .if1 .left) in
+    let fits : s .result ≤ length (a .out .now) = omega (arith, e .before .before .put-number-arg .given, p .ensures .1 .1, r .ensures .1 .1, q .ensures .1 .1, s .ensures .1 .1) in
+    let first-two =
     put-next (a .out .now) 0 (decimal (j .result .refusal)) (space ∷ decimal (l .head .n)) (p .ensures .0, p .ensures .1 .0)
     (r .ensures .0, r .ensures .1 .0) (omega arith) in
-    let third = put-next (a .out .now) 0 _ (space ∷ decimal (l .maxchunks)) second (q .ensures .0, q .ensures .1 .0) (omega arith) in
-    let fourth =
-    put-next (a .out .now) 0 _ (spaced (totalsOf (containerOf l (a .image .now) (j .last .1 .0)))) third (s .ensures .0, s .ensures .1 .0)
-    fits in
+    let first-three = put-next (a .out .now) 0 _ (space ∷ decimal (l .maxchunks)) first-two (q .ensures .0, q .ensures .1 .0) (omega arith) in
+    let all =
+    put-next (a .out .now) 0 _ (spaced (totalsOf (containerOf l (j .result .lists) (a .image .now) (j .last .1 .0)))) first-three
+    (s .ensures .0, s .ensures .1 .0) fits in
     line-put (a .image .now) (a .out .now)
-    (accepted-line (a .image .now) (j .result) (j .last .1 .0) (j .ensures .0) (j .ensures .1) none) (omega arith) fourth
+    (accepted-line (a .image .now) (j .result) (j .last .1 .0) (j .ensures .0) (j .ensures .1) (e .if1 .left))
+    (omega (arith, fits, s .kept, q .kept .0, r .kept .0, p .kept .0)) all
 
 pub line-spec : {M : Type 1} → statement M
 line-spec =

@@ -7,7 +7,7 @@ use native.Mathlib.Nat.{le-antisymm}
 use native.Mathlib.Omega.{arith}
 use lib.ListN.{length}
 use Rattle.endian.specs.Below.{listBelow, joinBelow}
-use Rattle.reading.specs.declared.record.Counted.{Counted}
+use Rattle.reading.specs.declared.record.ByteCount.{ByteCount}
 use Rattle.reading.specs.Reads.{Container, containerOf, totalAnswer}
 use Rattle.line.specs.Line.{space, decimal, spaced, totalsOf}
 use Rattle.endian.proofs.Splice.{Put, put-none, put-is, put-next}
@@ -21,20 +21,20 @@ abbrev totals : Container → ℕ → ℕ
 totals c i = totalAnswer c (i + 1) .bytes
 
 abbrev Inv-loop : tie.InvT-loop
-Inv-loop l image table out₀ at n end₀ i₀ out end i =
+Inv-loop l lists image table out₀ at n end₀ i₀ out end i =
     (i ≤ n)
     × (length out ≡ length out₀)
     × (end ≤ at + 21 * i)
-    × Put out₀ at (spaced (listBelow i (totals (containerOf l image table)))) out end
+    × Put out₀ at (spaced (listBelow i (totals (containerOf l lists image table)))) out end
 
 abbrev μ-loop : tie.MeasureT-loop
-μ-loop l image table out₀ at n end₀ i₀ out end i = n - i
+μ-loop l lists image table out₀ at n end₀ i₀ out end i = n - i
 
 -- the text after a turn
-turn : (c : Container) (i : ℕ) (answer : Counted) → answer ≡ totalAnswer c (i + 1)
+turn : (c : Container) (i : ℕ) (answer : ByteCount) → answer ≡ totalAnswer c (i + 1)
     → spaced (listBelow i (totals c)) ++ (space ∷ decimal (answer .bytes)) ≡ spaced (listBelow (i + 1) (totals c))
 turn c i answer t =
-    ap (λ (a : Counted). spaced (listBelow i (totals c)) ++ (space ∷ decimal (a .bytes))) t ∙ sym (spaced-more (totals c) i)
+    ap (λ (a : ByteCount). spaced (listBelow i (totals c)) ++ (space ∷ decimal (a .bytes))) t ∙ sym (spaced-more (totals c) i)
 
 cast-n : tie.Need-cast-n Inv-loop μ-loop
 cast-n c = search needs
@@ -53,8 +53,9 @@ total-requires c κs = search needs
 
 put-spaced-requires : tie.Need-put-spaced-requires Inv-loop μ-loop
 put-spaced-requires c κs =
-    let l = c .before .before .before .loop in
-    let z = c .before .before .before .before .before .before .before in
+    let h = c .before .before .before in
+    let l = h .loop in
+    let z = h .before .before .before .before in
     omega (arith, l .inv .0, l .inv .1, l .inv .2, c .before .before .loop-test .taken, z .pre)
 
 add-i : tie.Need-add-i Inv-loop μ-loop
@@ -65,11 +66,13 @@ loop-less c = search needs
 
 loop-again : tie.Need-loop-again Inv-loop μ-loop
 loop-again c =
-    let l = c .before .before .before .before .before .before .loop in
-    let z = c .before .before .before .before .before .before .before .before .before .before in
+    let turn-taken = c .before .before .before .before in
+    let h = turn-taken .before .before in
+    let l = h .loop in
+    let z = h .before .before .before .before in
     let a = z .args in
-    let t = c .before .before .before .before .total in
-    let c₀ = containerOf (a .l) (a .image .now) (a .table .now) in
+    let t = turn-taken .total in
+    let c₀ = containerOf (a .l) (a .lists .now) (a .image .now) (a .table .now) in
     let p = c .before .before .put-spaced in (
       search needs,
       p .kept .0 ∙ l .inv .1,
@@ -77,7 +80,7 @@ loop-again c =
       put-is (a .out .now) (a .at) (turn c₀ (l .i) (t .result) (t .ensures))
           (put-next (a .out .now) (a .at) (spaced (listBelow (l .i) (totals c₀))) (space ∷ decimal (t .result .bytes)) (l .inv .3)
           (p .ensures .0, p .ensures .1 .0)
-          (omega (arith, p .ensures .1 .1, l .inv .2, c .before .before .before .before .before .loop-test .taken, z .pre))),
+          (omega (arith, p .ensures .1 .1, l .inv .2, turn-taken .before .loop-test .taken, z .pre))),
     )
 
 same-length : tie.Need-same-length Inv-loop μ-loop
@@ -88,7 +91,7 @@ unfolding totalsOf
 returns c =
     let l = c .before .loop in
     let a = c .before .before .before .before .before .args in
-    let f = totals (containerOf (a .l) (a .image .now) (a .table .now)) in
+    let f = totals (containerOf (a .l) (a .lists .now) (a .image .now) (a .table .now)) in
     let all = ap (λ (k : ℕ). spaced (listBelow k f)) (le-antisymm (l .inv .0) (c .loop-test .left)) in
     let p = put-is (a .out .now) (a .at) all (l .inv .3) in
     (p .0, (p .1, omega (arith, l .inv .0, l .inv .2)))

@@ -5,10 +5,10 @@ use Rattle.vectors.proofs.add_parts.Statement.{statement}
 use Rattle.vectors.proofs.add_parts.Tie as tie
 
 abbrev Inv-loop : tie.InvT-loop
-Inv-loop l image table task sum₀ chunk₀ sum chunk = Unit {0}
+Inv-loop l lists image table task sum₀ chunk₀ sum chunk = Unit {0}
 
 abbrev μ-loop : tie.MeasureT-loop
-μ-loop l image table task sum₀ chunk₀ sum chunk = 33 - chunk
+μ-loop l lists image table task sum₀ chunk₀ sum chunk = 33 - chunk
 
 loop-holds : tie.Need-loop-holds Inv-loop μ-loop
 loop-holds c = search needs

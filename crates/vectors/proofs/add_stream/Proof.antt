@@ -5,10 +5,10 @@ use Rattle.vectors.proofs.add_stream.Statement.{statement}
 use Rattle.vectors.proofs.add_stream.Tie as tie
 
 abbrev Inv-loop : tie.InvT-loop
-Inv-loop l image table task sum₀ p₀ sum p = Unit {0}
+Inv-loop l lists image table task sum₀ p₀ sum p = Unit {0}
 
 abbrev μ-loop : tie.MeasureT-loop
-μ-loop l image table task sum₀ p₀ sum p = 65_537 - p
+μ-loop l lists image table task sum₀ p₀ sum p = 65_537 - p
 
 loop-holds : tie.Need-loop-holds Inv-loop μ-loop
 loop-holds c = search needs

@@ -5,10 +5,10 @@ use Rattle.vectors.proofs.print_sums.Statement.{statement}
 use Rattle.vectors.proofs.print_sums.Tie as tie
 
 abbrev Inv-loop : tie.InvT-loop
-Inv-loop l image table n parts₀ streams₀ task₀ t8 t9 parts streams task = Unit {0}
+Inv-loop l lists image table n parts₀ streams₀ task₀ t8 t9 parts streams task = Unit {0}
 
 abbrev μ-loop : tie.MeasureT-loop
-μ-loop l image table n parts₀ streams₀ task₀ t8 t9 parts streams task = l .head .n - task
+μ-loop l lists image table n parts₀ streams₀ task₀ t8 t9 parts streams task = l .head .n - task
 
 cast-n : tie.Need-cast-n Inv-loop μ-loop
 cast-n c = search needs

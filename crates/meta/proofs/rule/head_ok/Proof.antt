@@ -1,5 +1,5 @@
 -- `meta::rule::head_ok` meets its contract: each return by the tests that led there. Assumes nothing.
-use mathlib.Core.Path.{_≡_}
+use mathlib.Core.Path.{_≡_, sym}
 use mathlib.Core.Bool.{true}
 use native.Mathlib.Omega.{arith}
 use lib.IntN.{pos}
@@ -9,60 +9,82 @@ use Rattle.endian.proofs.Below.{test-fails, test-holds}
 use Rattle.layout.specs.Limits.{blocksizeRule, tasksRule}
 use Rattle.meta.specs.Heads.{isOrder, headSound}
 use Rattle.meta.proofs.Fields.{tasks-facts}
+use Rattle.meta.proofs.Stripes.{length-ranks, length-sizes}
 use Rattle.meta.proofs.rule.head_ok.Statement.{statement}
 use Rattle.meta.proofs.rule.head_ok.Tie as tie
 
 -- what the first three tests give
-ordered : (e : tie.Else1) → isOrder (e .before .before .before .args .order) ≡ true
-ordered e = le-leb (e .before .before .before .args .order) 1 (e .if1 .left)
+ordered : (e : tie.Else1) → isOrder (e .before .before .before .args .h .order) ≡ true
+ordered e = le-leb (e .before .before .before .args .h .order) 1 (e .if1 .left)
 
-powered : (e : tie.Else2) → blocksizeRule (pos (e .before .before .before .before .before .args .blocksize)) ≡ true
+powered : (e : tie.Else2) → blocksizeRule (pos (e .before .before .before .before .before .args .h .blocksize)) ≡ true
 powered e = test-holds (e .before .blocksize-ok .ensures) (e .if2 .left)
 
-numbered : (e : tie.Else3) → tasksRule (pos (e .before .before .before .before .before .before .before .args .n)) ≡ true
+abbrev start : tie.Else3 → tie.Start
+start e = let o = e .before .before .before .before in o .before .before .before
+
+numbered : (e : tie.Else3) → tasksRule (pos (start e .args .h .n)) ≡ true
 numbered e = test-holds (e .before .tasks-ok .ensures) (e .if3 .left)
 
 returns : tie.Need-returns
 unfolding headSound
-returns c v p = rw (lt-leb (c .before .before .before .args .order) 1 (c .if1 .taken))
+returns c = rw (lt-leb (c .before .before .before .args .h .order) 1 (c .if1 .taken))
 
 blocksize-ok-requires : tie.Need-blocksize-ok-requires
 blocksize-ok-requires c κs = search needs
 
 returns-2 : tie.Need-returns-2
 unfolding headSound
-returns-2 c v p = rw (ordered (c .before .before), test-fails (c .before .blocksize-ok .ensures) (c .if2 .taken))
+returns-2 c = rw (ordered (c .before .before), test-fails (c .before .blocksize-ok .ensures) (c .if2 .taken))
 
 tasks-ok-requires : tie.Need-tasks-ok-requires
 tasks-ok-requires c κs = search needs
 
 returns-3 : tie.Need-returns-3
 unfolding headSound
-returns-3 c v p =
+returns-3 c =
     let e = c .before .before in
     rw (ordered (e .before .before), powered e, test-fails (c .before .tasks-ok .ensures) (c .if3 .taken))
 
+cast-n : tie.Need-cast-n
+cast-n c = search needs
+
+slice-aggregate-ranks-ok : tie.Need-slice-aggregate-ranks-ok
+slice-aggregate-ranks-ok c =
+    let s = start (c .before .before) in
+    sym (length-ranks (s .args .lists .now) (s .pre))
+
 ranks-ok-requires : tie.Need-ranks-ok-requires
 ranks-ok-requires c κs =
-    omega (arith, tasks-facts _ (numbered c) .1, c .before .before .before .before .before .before .before .pre .0)
+    let e = c .before .before in
+    omega (arith, tasks-facts _ (numbered e) .1, length-ranks (start e .args .lists .now) (start e .pre))
 
 returns-4 : tie.Need-returns-4
 unfolding headSound
-returns-4 c v p =
-    let t = c .before .before in
+returns-4 c =
+    let t = c .before .before .before .before in
     let e = t .before .before in
     rw (ordered (e .before .before), powered e, numbered t, test-fails (c .before .ranks-ok .ensures) (c .if4 .taken))
 
+sub-sizes-ok : tie.Need-sub-sizes-ok
+sub-sizes-ok c = search needs
+
+part-sizes-ok-start : tie.Need-part-sizes-ok-start
+part-sizes-ok-start c = search needs
+
+part-sizes-ok-end : tie.Need-part-sizes-ok-end
+part-sizes-ok-end c = omega (arith, start (c .before .before .before .before) .pre)
+
 sizes-ok-requires : tie.Need-sizes-ok-requires
 sizes-ok-requires c κs =
-    let t = c .before .before in
-    omega (arith, tasks-facts _ (numbered t) .1, t .before .before .before .before .before .before .before .pre .1)
+    let e = c .before .before .before .before .before in
+    omega (arith, tasks-facts _ (numbered e) .1, length-sizes (start e .args .lists .now) (start e .pre))
 
 returns-5 : tie.Need-returns-5
 unfolding headSound
-returns-5 c v p =
-    let f = c .before in
-    let t = f .before .before in
+returns-5 c =
+    let f = c .before .before in
+    let t = f .before .before .before .before in
     let e = t .before .before in
     rw (ordered (e .before .before), powered e, numbered t, test-holds (f .before .ranks-ok .ensures) (f .if4 .left))
     (c .sizes-ok .ensures)
@@ -76,7 +98,12 @@ head-ok-spec =
     returns-2
     tasks-ok-requires
     returns-3
+    cast-n
+    slice-aggregate-ranks-ok
     ranks-ok-requires
     returns-4
+    sub-sizes-ok
+    part-sizes-ok-start
+    part-sizes-ok-end
     sizes-ok-requires
     returns-5)

@@ -1,6 +1,6 @@
 -- `meta::second::fill` meets its contract. The loop's invariant: the first j values are spliced into the table's start. The measure is the
 -- values left. Assumes nothing.
-use Prim.Native.Nat.{ℕ, _≤_, _-_}
+use Prim.Native.Nat.{ℕ, _+_, _*_, _≤_, _-_}
 use mathlib.Core.Path.{_≡_, refl, ap, _∙_}
 use native.Mathlib.Nat.{le-antisymm}
 use native.Mathlib.Omega.{arith}
@@ -9,26 +9,23 @@ use lib.ListN.{length}
 use mir.Facts.{toZ-ofZ}
 use mir.Syntax.{w64}
 use Rattle.endian.specs.Below.{listBelow}
+use Rattle.endian.specs.Signed.{signedAt}
 use Rattle.endian.specs.Splice.{splice}
-use Rattle.meta.specs.Meta2.{valueField}
 use Rattle.endian.proofs.Splice.{splice-none, splice-more}
 use Rattle.meta.proofs.second.fill.Statement.{statement}
 use Rattle.meta.proofs.second.fill.Tie as tie
 
 abbrev Inv-loop : tie.InvT-loop
-Inv-loop table₀ cells part n big at j₀ table j =
-    (j ≤ cells) × (length table ≡ length table₀) × (table ≡ splice table₀ 0 (listBelow j (valueField big part n)))
+Inv-loop table₀ cells part at big j₀ table j =
+    (j ≤ cells) × (length table ≡ length table₀) × (table ≡ splice table₀ 0 (listBelow j (λ i. signedAt big 8 part (at + 8 * i))))
 
 abbrev μ-loop : tie.MeasureT-loop
-μ-loop table₀ cells part n big at j₀ table j = cells - j
-
-mul-at : tie.Need-mul-at Inv-loop μ-loop
-mul-at c = search needs
+μ-loop table₀ cells part at big j₀ table j = cells - j
 
 loop-holds : tie.Need-loop-holds Inv-loop μ-loop
 loop-holds c =
     let a = c .before .args in
-    (search needs, refl, splice-none (a .table .now) (valueField (a .big) (a .part .now) (a .n)))
+    (search needs, refl, splice-none (a .table .now) (λ i. signedAt (a .big) 8 (a .part .now) (a .at + 8 * i)))
 
 mul-get-i64 : tie.Need-mul-get-i64 Inv-loop μ-loop
 mul-get-i64 c = search needs
@@ -39,8 +36,8 @@ add-get-i64 c = search needs
 get-i64-requires : tie.Need-get-i64-requires Inv-loop μ-loop
 get-i64-requires c κs = search needs
 
-mul-t12 : tie.Need-mul-t12 Inv-loop μ-loop
-mul-t12 c = search needs
+mul-t11 : tie.Need-mul-t11 Inv-loop μ-loop
+mul-t11 c = search needs
 
 slice-set-from-table : tie.Need-slice-set-from-table Inv-loop μ-loop
 slice-set-from-table c = search needs
@@ -58,7 +55,7 @@ loop-again c =
     let value = toZ-ofZ {w = w64} (sfits-of (c .get-i64 .ok)) ∙ c .get-i64 .ensures in (
       search needs,
       search needs,
-      rw (value, l .inv .2) (splice-more (a .table .now) (valueField (a .big) (a .part .now) (a .n)) (l .j) (omega arith)),
+      rw (value, l .inv .2) (splice-more (a .table .now) (λ i. signedAt (a .big) 8 (a .part .now) (a .at + 8 * i)) (l .j) (omega arith)),
     )
 
 same-length : tie.Need-same-length Inv-loop μ-loop
@@ -69,7 +66,7 @@ returns c =
     let a = c .before .before .before .args in
     let l = c .before .loop in
     l .inv .2
-    ∙ ap (λ (k : ℕ). splice (a .table .now) 0 (listBelow k (valueField (a .big) (a .part .now) (a .n))))
+    ∙ ap (λ (k : ℕ). splice (a .table .now) 0 (listBelow k (λ i. signedAt (a .big) 8 (a .part .now) (a .at + 8 * i))))
     (le-antisymm (l .inv .0) (c .loop-test .left))
 
 pub fill-spec : {M : Type 1} → statement M
@@ -78,12 +75,11 @@ fill-spec =
     (tie.spec
     Inv-loop
     μ-loop
-    mul-at
     loop-holds
     mul-get-i64
     add-get-i64
     get-i64-requires
-    mul-t12
+    mul-t11
     slice-set-from-table
     add-j
     loop-less

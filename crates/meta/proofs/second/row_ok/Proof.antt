@@ -1,35 +1,72 @@
--- `meta::second::row_ok` meets its contract. The loop's invariant: every value passed keeps its rule. The measure is the tasks left.
+-- `meta::second::row_ok` meets its contract. The loop's invariant: no top bit is set exactly where every cell passed keeps its rule. The measure is the tasks left.
 -- Assumes nothing.
-use Prim.Native.Nat.{_+_, _*_, _≤_, _<_, _-_}
-use mathlib.Core.Path.{_≡_, _∙_}
-use mathlib.Core.Bool.{Bool, true}
-use mathlib.Core.Logic.{⊎-elim}
+use Prim.Native.Nat.{ℕ, _+_, _-_, _^_, _≤_}
+use mathlib.Core.Path.{_≡_, ap₂, ap, sym, _∙_}
+use mathlib.Core.Bool.{Bool, _&&_}
+use native.Mathlib.Nat.{le-antisymm}
 use native.Mathlib.Omega.{arith}
-use borrow.Author.Needs.{needs}
-use borrow.Author.Tests.{le-leb, lt-leb, eq-eqb, ne-eqb}
-use lib.Dec.{ltb, leb, eqb}
+use borrow.Author.Needs.{needs, sfits-of}
+use lib.Dec.{ltb}
+use lib.IntN.{ℤ, pos}
 use lib.ListN.{getD}
+use mir.Facts.{toZ-ofZ}
+use mir.Syntax.{w64}
 use Rattle.endian.specs.Below.{allBelow}
-use Rattle.endian.specs.Signed.{signedAt}
-use Rattle.endian.proofs.Below.{all-none, all-more, all-end, all-fails}
+use Rattle.endian.proofs.Below.{all-none, all-turn}
+use Rattle.layout.specs.Limits.{maxSize}
 use Rattle.layout.specs.Areas.{capacity}
 use Rattle.layout.proofs.Bounds.{sound-size}
+use Rattle.layout.proofs.Chunks.{capacity-small}
 use Rattle.meta.specs.Meta2.{valueRule}
-use Rattle.meta.proofs.Values.{row-used, row-unused}
-use Rattle.meta.proofs.Rows.{holds-small}
 use Rattle.meta.proofs.second.row_ok.Statement.{statement}
 use Rattle.meta.proofs.second.row_ok.Tie as tie
 
 abbrev Inv-loop : tie.InvT-loop
-Inv-loop part at big k n blocksize sizes counts i₀ i =
+Inv-loop cells at k first n blocksize sizes counts bad₀ i₀ bad i =
     (i ≤ n)
-    × (allBelow i (λ j. valueRule (ltb k (getD counts j 0)) (capacity blocksize (getD sizes j 0)) (signedAt big 8 part (at + 8 * j))) ≡ true)
+    × (ltb bad (2 ^ 63)
+    ≡ allBelow i
+    (λ j. valueRule (ltb k (getD counts (first + j) 0)) (capacity blocksize (getD sizes (first + j) 0)) (getD cells (at + j) (pos 0))))
 
 abbrev μ-loop : tie.MeasureT-loop
-μ-loop part at big k n blocksize sizes counts i₀ i = n - i
+μ-loop cells at k first n blocksize sizes counts bad₀ i₀ bad i = n - i
+
+-- a turn, from the call that judges its cell, and the call of this function, from a turn
+abbrev turn : tie.After-value-bad Inv-loop μ-loop → tie.In-loop Inv-loop μ-loop
+turn v = v .before .before .before .before .before
+
+abbrev start : tie.In-loop Inv-loop μ-loop → tie.Start Inv-loop μ-loop
+start t = t .before .before .before .before
+
+-- the rule of each cell
+abbrev Rule : tie.Start Inv-loop μ-loop → ℕ → Bool
+Rule s i =
+    let a = s .args in
+    valueRule (ltb (a .k) (getD (a .counts .now) (a .first + i) 0)) (capacity (a .blocksize) (getD (a .sizes .now) (a .first + i) 0))
+    (getD (a .cells .now) (a .at + i) (pos 0))
+
+-- what the call answers, of the cell itself: a signed element that was read is what the machine reads back from its bits
+tested : (v : tie.After-value-bad Inv-loop μ-loop)
+    → let l = turn v .before .loop in
+    ltb (v .value-bad .result) (2 ^ 63) ≡ (ltb (l .bad) (2 ^ 63) && Rule (start (turn v)) (l .i))
+tested v =
+    let a = start (turn v) .args in
+    let l = turn v .before .loop in
+    let known = v .before .value-bad-arg .given in
+    v .value-bad .ensures
+    ∙ ap₂ (λ (h : ℕ) (z : ℤ). ltb (l .bad) (2 ^ 63) && valueRule (ltb (a .k) (getD (a .counts .now) (a .first + l .i) 0)) h z)
+    (v .before .before .before .chunk-holds .ensures)
+    (toZ-ofZ {w = w64} {z = getD (a .cells .now) (a .at + l .i) (pos 0)} (sfits-of known))
+
+-- the size of the turn's task
+small : (t : tie.In-loop Inv-loop μ-loop) → getD (start t .args .sizes .now) (start t .args .first + t .before .loop .i) 0 ≤ maxSize
+small t = sound-size (start t .pre .0 .0) (start t .args .first + t .before .loop .i) (search needs) .1
 
 loop-holds : tie.Need-loop-holds Inv-loop μ-loop
-loop-holds c = (search needs, all-none _)
+loop-holds c = (search needs, sym (all-none _))
+
+add-task : tie.Need-add-task Inv-loop μ-loop
+add-task c = search needs
 
 mul-chunk-holds : tie.Need-mul-chunk-holds Inv-loop μ-loop
 mul-chunk-holds c = search needs
@@ -38,60 +75,28 @@ shared-slice-read-chunk-holds : tie.Need-shared-slice-read-chunk-holds Inv-loop 
 shared-slice-read-chunk-holds c = search needs
 
 chunk-holds-requires : tie.Need-chunk-holds-requires Inv-loop μ-loop
-chunk-holds-requires c κs =
-    let p = c .before .before .before .before .before .before .pre .0 in
-    (p .block, sound-size p (c .before .before .loop .i) (c .before .loop-test .taken) .1)
+chunk-holds-requires c κs = (start (c .before) .pre .0 .0 .block, small (c .before))
 
-mul-get-u64 : tie.Need-mul-get-u64 Inv-loop μ-loop
-mul-get-u64 c = search needs
+mul-value-bad : tie.Need-mul-value-bad Inv-loop μ-loop
+mul-value-bad c = search needs
 
-add-get-u64 : tie.Need-add-get-u64 Inv-loop μ-loop
-add-get-u64 c = search needs
+shared-slice-read-value-bad : tie.Need-shared-slice-read-value-bad Inv-loop μ-loop
+shared-slice-read-value-bad c = search needs
 
-get-u64-requires : tie.Need-get-u64-requires Inv-loop μ-loop
-get-u64-requires c κs = search needs
+add-value-bad : tie.Need-add-value-bad Inv-loop μ-loop
+add-value-bad c = search needs
 
-mul-if1 : tie.Need-mul-if1 Inv-loop μ-loop
-mul-if1 c = search needs
+mul-value-bad-2 : tie.Need-mul-value-bad-2 Inv-loop μ-loop
+mul-value-bad-2 c = search needs
 
-shared-slice-read-if1 : tie.Need-shared-slice-read-if1 Inv-loop μ-loop
-shared-slice-read-if1 c = search needs
+shared-slice-copy-out-value-bad : tie.Need-shared-slice-copy-out-value-bad Inv-loop μ-loop
+shared-slice-copy-out-value-bad c = search needs
 
--- the rule of the value at hand
-abbrev Rule : tie.After-get-u64 Inv-loop μ-loop → Bool
-Rule g =
-    let a = g .before .before .before .before .before .before .before .before .args in
-    let i = g .before .before .before .before .loop .i in
-    valueRule (ltb (a .k) (getD (a .counts .now) i 0)) (capacity (a .blocksize) (getD (a .sizes .now) i 0))
-    (signedAt (a .big) 8 (a .part .now) (a .at + 8 * i))
-
--- it is what the code tests, of a chunk that is used and of one that is not
-used : (g : tie.After-get-u64 Inv-loop μ-loop)
-    → let a = g .before .before .before .before .before .before .before .before .args in
-    a .k < getD (a .counts .now) (g .before .before .before .before .loop .i) 0
-    → Rule g ≡ leb (g .get-u64 .result) (g .before .chunk-holds .result)
-used g u =
-    let p = g .before .before .before .before .before .before .before .before .pre .0 in
-    row-used _ _ (g .get-u64 .ensures) (g .before .chunk-holds .ensures) u
-    (holds-small p (g .before .before .before .before .loop .i) (g .before .before .before .loop-test .taken))
-
-unused : (g : tie.After-get-u64 Inv-loop μ-loop)
-    → let a = g .before .before .before .before .before .before .before .before .args in
-    getD (a .counts .now) (g .before .before .before .before .loop .i) 0 ≤ a .k
-    → Rule g ≡ eqb (g .get-u64 .result) 18446744073709551615
-unused g u = row-unused _ _ _ (g .get-u64 .ensures) u (omega (arith, g .get-u64 .ok))
-
-returns : tie.Need-returns Inv-loop μ-loop
-returns c =
-    let g = c .before .before .before in
-    all-fails _ (g .before .before .before .before .loop .i) (g .before .before .before .loop-test .taken)
-    (used g (c .before .if1 .taken) ∙ lt-leb _ _ (c .if2 .taken))
-
-returns-2 : tie.Need-returns-2 Inv-loop μ-loop
-returns-2 c =
-    let g = c .before .before .before in
-    all-fails _ (g .before .before .before .before .loop .i) (g .before .before .before .loop-test .taken)
-    (unused g (c .before .if1 .left) ∙ ne-eqb _ _ (c .if3 .taken))
+value-bad-requires : tie.Need-value-bad-requires Inv-loop μ-loop
+value-bad-requires c κs =
+    let h = c .before .before in
+    let s = start (h .before .before) in
+    (s .pre .0 .1, omega (arith, h .chunk-holds .ensures, capacity-small (s .args .blocksize) _ (small (h .before .before))))
 
 add-i : tie.Need-add-i Inv-loop μ-loop
 add-i c = search needs
@@ -101,18 +106,15 @@ loop-less c = search needs
 
 loop-again : tie.Need-loop-again Inv-loop μ-loop
 loop-again c =
-    let g = c .before .before in
-    let l = g .before .before .before .before .loop in (
-      search needs,
-      all-more _ (l .i) (l .inv .1)
-          (⊎-elim
-          (λ y. used g (y .0 .taken) ∙ le-leb _ _ (y .1 .left))
-          (λ y. unused g (y .0 .left) ∙ eq-eqb _ _ (y .1 .left))
-          (c .if1 .came)),
-    )
+    let l = turn c .before .loop in
+    let p = Rule (start (turn c)) in
+    (search needs, tested c ∙ ap (λ (q : Bool). q && p (l .i)) (l .inv .1) ∙ sym (all-turn p (l .i)))
 
-returns-3 : tie.Need-returns-3 Inv-loop μ-loop
-returns-3 c = all-end _ (search needs) (search needs) (c .before .loop .inv .1)
+returns : tie.Need-returns Inv-loop μ-loop
+returns c =
+    let s = c .before .before .before .before in
+    let l = c .before .loop in
+    l .inv .1 ∙ ap (λ (k : ℕ). allBelow k (Rule s)) (le-antisymm (l .inv .0) (c .loop-test .left))
 
 pub row-ok-spec : {M : Type 1} → statement M
 row-ok-spec =
@@ -121,17 +123,17 @@ row-ok-spec =
     Inv-loop
     μ-loop
     loop-holds
+    add-task
     mul-chunk-holds
     shared-slice-read-chunk-holds
     chunk-holds-requires
-    mul-get-u64
-    add-get-u64
-    get-u64-requires
-    mul-if1
-    shared-slice-read-if1
-    returns
-    returns-2
+    mul-value-bad
+    shared-slice-read-value-bad
+    add-value-bad
+    mul-value-bad-2
+    shared-slice-copy-out-value-bad
+    value-bad-requires
     add-i
     loop-less
     loop-again
-    returns-3)
+    returns)

@@ -25,19 +25,17 @@ unfolding chunkPart
 returns c =
     let r = c .before .before .chunk-refusal in
     let a = c .before .before .before .before .args in
-    let refusal : ℕ = chunkRefusal (containerOf (a .l) (a .image .now) (a .table .now)) (a .task) (a .chunk) in
+    let refusal : ℕ = chunkRefusal (containerOf (a .l) (a .lists .now) (a .image .now) (a .table .now)) (a .task) (a .chunk) in
     sym (when-refused refusal _ _ (omega (arith, r .ensures, c .before .if1 .taken)))
 
 chunk-part-requires : tie.Need-chunk-part-requires
-chunk-part-requires c κs = sym (c .before .chunk-refusal .ensures) ∙ c .if1 .left
+chunk-part-requires c κs = record { as-many = search needs; passes = sym (c .before .before .chunk-refusal .ensures) ∙ c .before .if1 .left }
 
 returns-2 : tie.Need-returns-2
 unfolding chunkPart
 returns-2 c =
-    let a = c .before .before .before .before .args in
-    let refusal : ℕ = chunkRefusal (containerOf (a .l) (a .image .now) (a .table .now)) (a .task) (a .chunk) in
-    c .chunk-part .ensures
-    ∙ sym (when-accepted refusal _ _ (sym (c .before .before .chunk-refusal .ensures) ∙ c .before .if1 .left))
+    let e = c .before .before in
+    c .chunk-part .ensures ∙ sym (when-accepted _ _ _ (sym (e .before .chunk-refusal .ensures) ∙ e .if1 .left))
 
 pub chunk-spec : {M : Type 1} → statement M
 chunk-spec =

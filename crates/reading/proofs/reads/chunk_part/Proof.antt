@@ -5,7 +5,7 @@ use native.Mathlib.Omega.{arith}
 use lib.ListN.{take, drop}
 use borrow.Author.Needs.{needs}
 use Rattle.reading.specs.declared.record.Part.{Part}
-use Rattle.reading.specs.Reads.{partOf, chunkBytes}
+use Rattle.reading.specs.Reads.{chunkPlace, chunkBytes}
 use Rattle.reading.proofs.reads.chunk_part.Statement.{statement}
 use Rattle.reading.proofs.reads.chunk_part.Tie as tie
 
@@ -25,9 +25,9 @@ part-result-end : tie.Need-part-result-end
 part-result-end c = omega (arith, c .part-of .ensures .1)
 
 returns : tie.Need-returns
-unfolding chunkBytes partOf
+unfolding chunkBytes chunkPlace
 returns c =
-    let a = c .before .before .before .args in
+    let a = c .before .before .before .before .args in
     let p = c .before .part-of in
     let cut : p .result .start + p .result .length - p .result .start ≡ p .result .length = omega arith in
     rw cut (ap (λ (r : Part). take (r .length) (drop (r .start) (a .image .now))) (p .ensures .0))

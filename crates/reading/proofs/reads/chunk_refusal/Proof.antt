@@ -1,15 +1,55 @@
 -- `reading::reads::chunk_refusal` meets its contract: each return by the tests that led there. Assumes nothing.
-use mathlib.Core.Path.{sym, _∙_}
+use mathlib.Core.Path.{_≡_, sym, _∙_}
+use mathlib.Core.Bool.{not}
+use mathlib.Core.List.{[], _∷_}
+use Prim.Native.Nat.{_-_, _<_}
 use native.Mathlib.Omega.{arith}
 use borrow.Author.Needs.{needs}
 use borrow.Author.Tests.{lt-leb}
+use lib.IntN.{pos}
+use Rattle.endian.specs.Signed.{within}
 use Rattle.endian.proofs.Signed.{within-holds, within-over}
-use Rattle.meta.specs.Refusals.{firstFailing}
+use Rattle.layout.specs.Limits.{maxTasks}
+use Rattle.meta.specs.Refusals.{test, firstFailing}
+use Rattle.meta.specs.Heads.{entry, countAt}
 use Rattle.meta.proofs.Refusals.{first-passes, first-fails}
-use Rattle.reading.specs.Reads.{containerOf, readTests, used, chunkRefusal}
-use Rattle.reading.proofs.Readable.{read-numbered, readable}
+use Rattle.meta.proofs.Stripes.{count-at}
+use Rattle.reading.specs.Reads.{Container, containerOf, readTests, used, chunkRefusal}
+use Rattle.reading.proofs.Readable.{Readable, read-numbered, readable}
 use Rattle.reading.proofs.reads.chunk_refusal.Statement.{statement}
 use Rattle.reading.proofs.reads.chunk_refusal.Tie as tie
+
+abbrev start : tie.After-read-refusal → tie.Start
+start c = c .before .before .before
+
+-- what is read
+abbrev given : tie.Start → Container
+given s = let a = s .args in containerOf (a .l) (a .lists .now) (a .image .now) (a .table .now)
+
+-- where the task may be read, its chunk is asked for, and its count stands among the lists
+passes : (e : tie.Else1) → let s = start (e .before) in firstFailing (readTests (given s) (s .args .task)) ≡ 0
+passes e = sym (e .before .read-refusal .ensures) ∙ e .if1 .left
+
+known : (e : tie.Else1) → let s = start (e .before) in Readable (given s) (s .args .task)
+known e = readable _ _ (record { as-many = search needs; passes = passes e })
+
+asked : (e : tie.Else1)
+    → let s = start (e .before) in
+    chunkRefusal (given s) (s .args .task) (s .args .chunk)
+    ≡ firstFailing (test 22 (not (within 1 (used (given s) (s .args .task)) (pos (s .args .chunk)))) ∷ [])
+unfolding chunkRefusal
+asked e =
+    let s = start (e .before) in
+    first-passes (readTests (given s) (s .args .task)) _ (read-numbered (given s) (s .args .task)) (passes e)
+
+listed : (e : tie.Else1) → start (e .before) .args .task - 1 < maxTasks
+listed e = let r = known e in omega (arith, r .first-task, r .last-task, r .sound .tasks)
+
+counted : (e : tie.Else1)
+    → let s = start (e .before) in
+    entry (s .args .lists .now) (countAt (s .args .task - 1)) ≡ used (given s) (s .args .task)
+unfolding used
+counted e = let s = start (e .before) in count-at (s .args .lists .now) (s .args .task - 1) (listed e)
 
 read-refusal-requires : tie.Need-read-refusal-requires
 read-refusal-requires c κs = search needs
@@ -17,62 +57,43 @@ read-refusal-requires c κs = search needs
 returns : tie.Need-returns
 unfolding chunkRefusal
 returns c =
-    let r = c .before .read-refusal in
-    let a = c .before .before .before .args in
-    let k = containerOf (a .t1) (a .image .now) (a .table .now) in
-    r .ensures ∙ sym (first-fails (readTests k (a .task)) _ (omega (arith, r .ensures, c .if1 .taken)))
+    let r = c .before in
+    let s = start r in
+    r .read-refusal .ensures
+    ∙ sym (first-fails (readTests (given s) (s .args .task)) _ (omega (arith, r .read-refusal .ensures, c .if1 .taken)))
 
 returns-2 : tie.Need-returns-2
-unfolding chunkRefusal firstFailing
+unfolding firstFailing
 returns-2 c =
-    let r = c .before .before .read-refusal in
-    let a = c .before .before .before .before .args in
-    let k = containerOf (a .t1) (a .image .now) (a .table .now) in
-    sym (first-passes (readTests k (a .task)) _ (read-numbered k (a .task)) (sym (r .ensures) ∙ c .before .if1 .left)
-    ∙ simp (lt-leb 1 (a .chunk) (c .if2 .taken)))
+    let e = c .before in
+    sym (asked e ∙ simp (lt-leb 1 (start (e .before) .args .chunk) (c .if2 .taken)))
 
 sub-i : tie.Need-sub-i
-sub-i c =
-    let r = c .before .before .read-refusal in
-    let a = c .before .before .before .before .args in
-    let k = containerOf (a .t1) (a .image .now) (a .table .now) in
-    readable k (a .task) (search needs) (sym (r .ensures) ∙ c .before .if1 .left) .first-task
+sub-i c = known (c .before) .first-task
+
+add-if3 : tie.Need-add-if3
+add-if3 c = omega (arith, listed (c .before))
 
 mul-if3 : tie.Need-mul-if3
-mul-if3 c =
-    let r = c .before .before .read-refusal in
-    let a = c .before .before .before .before .args in
-    let k = containerOf (a .t1) (a .image .now) (a .table .now) in
-    let h = readable k (a .task) (search needs) (sym (r .ensures) ∙ c .before .if1 .left) in
-    omega (arith, h .last-task, h .sound .tasks)
+mul-if3 c = omega (arith, listed (c .before))
 
 element-copy-out-if3 : tie.Need-element-copy-out-if3
-element-copy-out-if3 c =
-    let r = c .before .before .read-refusal in
-    let a = c .before .before .before .before .args in
-    let k = containerOf (a .t1) (a .image .now) (a .table .now) in
-    let h = readable k (a .task) (search needs) (sym (r .ensures) ∙ c .before .if1 .left) in
-    omega (arith, h .first-task, h .last-task, h .sound .tasks)
+element-copy-out-if3 c = omega (arith, listed (c .before))
 
 returns-3 : tie.Need-returns-3
-unfolding chunkRefusal firstFailing used
+unfolding firstFailing
 returns-3 c =
-    let s = c .before .before .before in
-    let r = s .before .read-refusal in
-    let a = s .before .before .before .args in
-    let k = containerOf (a .t1) (a .image .now) (a .table .now) in
-    sym (first-passes (readTests k (a .task)) _ (read-numbered k (a .task)) (sym (r .ensures) ∙ s .if1 .left)
-    ∙ simp (within-over 1 (used k (a .task)) (a .chunk) (c .if3 .taken)))
+    let e = c .before .before .before in
+    let s = start (e .before) in
+    sym (asked e ∙ simp (within-over 1 (used (given s) (s .args .task)) (s .args .chunk) (omega (arith, counted e, c .if3 .taken))))
 
 returns-4 : tie.Need-returns-4
-unfolding chunkRefusal firstFailing used
+unfolding firstFailing
 returns-4 c =
-    let s = c .before .before .before in
-    let r = s .before .read-refusal in
-    let a = s .before .before .before .args in
-    let k = containerOf (a .t1) (a .image .now) (a .table .now) in
-    sym (first-passes (readTests k (a .task)) _ (read-numbered k (a .task)) (sym (r .ensures) ∙ s .if1 .left)
-    ∙ simp (within-holds 1 (used k (a .task)) (a .chunk) (c .before .before .if2 .left) (c .if3 .left)))
+    let e = c .before .before .before in
+    let s = start (e .before) in
+    sym (asked e
+    ∙ simp (within-holds 1 (used (given s) (s .args .task)) (s .args .chunk) (c .before .before .if2 .left) (omega (arith, counted e, c .if3 .left))))
 
 pub chunk-refusal-spec : {M : Type 1} → statement M
 chunk-refusal-spec =
@@ -82,6 +103,7 @@ chunk-refusal-spec =
     returns
     returns-2
     sub-i
+    add-if3
     mul-if3
     element-copy-out-if3
     returns-3

@@ -16,17 +16,18 @@ unfolding partAnswer
 returns c =
     let r = c .before .chunk-refusal .ensures in
     let a = c .before .before .before .args in
-    let refusal : ℕ = chunkRefusal (containerOf (a .l) (a .image .now) (a .table .now)) (a .task) (a .chunk) in
+    let refusal : ℕ = chunkRefusal (containerOf (a .l) (a .lists .now) (a .image .now) (a .table .now)) (a .task) (a .chunk) in
     (ap (λ (n : ℕ). record { refusal = n; start = 0; length = 0 }) r ∙ sym (when-refused refusal _ _ (omega (arith, r, c .if1 .taken))), omega arith)
 
 part-of-requires : tie.Need-part-of-requires
-part-of-requires c κs = sym (c .before .chunk-refusal .ensures) ∙ c .if1 .left
+part-of-requires c κs = record { as-many = search needs; passes = sym (c .before .before .chunk-refusal .ensures) ∙ c .before .if1 .left }
 
 returns-2 : tie.Need-returns-2
 unfolding partAnswer
 returns-2 c =
     let p = c .part-of .ensures in
-    (p .0 ∙ sym (when-accepted _ _ _ (sym (c .before .before .chunk-refusal .ensures) ∙ c .before .if1 .left)), p .1)
+    let e = c .before .before in
+    (p .0 ∙ sym (when-accepted _ _ _ (sym (e .before .chunk-refusal .ensures) ∙ e .if1 .left)), p .1)
 
 pub part-spec : {M : Type 1} → statement M
 part-spec = tie.close (tie.spec chunk-refusal-requires returns part-of-requires returns-2)

@@ -9,7 +9,7 @@ use borrow.Author.Tests.{lt-ltb, le-ltb}
 use Rattle.endian.specs.Splice.{splice}
 use Rattle.meta.specs.Refusals.{firstFailing}
 use Rattle.meta.proofs.Refusals.{first-passes, first-fails, when-accepted, when-refused}
-use Rattle.reading.specs.Reads.{Container, readTests, streamOf, totalOf, readRefusal, readAnswer, readOutput}
+use Rattle.reading.specs.Reads.{Container, containerOf, readTests, streamOf, totalOf, readRefusal, readAnswer, readOutput}
 use Rattle.reading.proofs.Readable.{read-numbered}
 use Rattle.reading.proofs.Stream.{counted}
 use Rattle.reading.proofs.reads.read.Statement.{statement}
@@ -43,6 +43,12 @@ module _ (c : Container) (task p : ℕ) where
   unfolding readAnswer readOutput
   accepted out filled b e f g = (ap (counted 0) g ∙ sym (when-accepted _ _ _ e), f ∙ sym (when-accepted _ _ _ e))
 
+-- where the tests pass
+passes : (e : tie.Else1)
+    → let a = e .before .before .before .before .before .args in
+    firstFailing (readTests (containerOf (a .l) (a .lists .now) (a .image .now) (a .table .now)) (a .task)) ≡ 0
+passes e = sym (e .before .read-refusal .ensures) ∙ e .if1 .left
+
 read-refusal-requires : tie.Need-read-refusal-requires
 read-refusal-requires c κs = search needs
 
@@ -50,22 +56,24 @@ returns : tie.Need-returns
 returns c = refused _ _ _ _ _ (tests-fail _ _ _ _ (c .before .read-refusal .ensures) (search needs)) (search needs)
 
 total-of-requires : tie.Need-total-of-requires
-total-of-requires c κs = search needs
+total-of-requires c κs = record { as-many = search needs; passes = passes (c .before) }
 
 returns-2 : tie.Need-returns-2
-returns-2 c = refused _ _ _ _ _ (past-total _ _ _ _ (search needs) (c .before .total-of .ensures) (c .if2 .taken)) (omega arith)
+returns-2 c = refused _ _ _ _ _ (past-total _ _ _ _ (passes (c .before .before .before)) (c .before .total-of .ensures) (c .if2 .taken)) (omega arith)
 
 copy-stream-requires : tie.Need-copy-stream-requires
-copy-stream-requires c κs = search needs
+copy-stream-requires c κs = record { as-many = search needs; passes = passes (c .before .before .before .before .before) }
 
 same-length : tie.Need-same-length
 same-length c = search needs
 
 returns-3 : tie.Need-returns-3
 returns-3 c =
-    let copied = c .before .before .copy-stream in
-    let s = c .before .before .before .before in
-    accepted _ _ _ _ _ _ (in-total _ _ _ _ (search needs) (s .before .total-of .ensures) (s .if2 .left)) (copied .ensures .0) (copied .ensures .1)
+    let copied = c .before .before in
+    let s = copied .before .before .before in
+    let total = s .before in
+    accepted _ _ _ _ _ _ (in-total _ _ _ _ (passes (total .before .before)) (total .total-of .ensures) (s .if2 .left))
+    (copied .copy-stream .ensures .0) (copied .copy-stream .ensures .1)
 
 pub read-spec : {M : Type 1} → statement M
 read-spec =

@@ -1,15 +1,34 @@
 -- `reading::reads::read_refusal` meets its contract: each return by the tests that led there. Assumes nothing.
-use mathlib.Core.Path.{sym, _∙_}
+use mathlib.Core.Path.{_≡_, sym, _∙_}
+use mathlib.Core.Bool.{not}
+use mathlib.Core.List.{[], _∷_}
 use native.Mathlib.Omega.{arith}
 use borrow.Author.Needs.{needs}
 use borrow.Author.Tests.{lt-leb}
 use Rattle.endian.proofs.Signed.{within-holds, within-over}
-use Rattle.meta.specs.Refusals.{firstFailing}
+use Rattle.meta.specs.Refusals.{test, firstFailing}
+use Rattle.meta.specs.Heads.{isTask}
 use Rattle.meta.proofs.Refusals.{first-passes, first-fails}
-use Rattle.reading.specs.Reads.{containerOf, loadedTests, readTests}
+use Rattle.reading.specs.Reads.{Container, containerOf, loadedTests, readTests}
 use Rattle.reading.proofs.Readable.{loaded-numbered}
 use Rattle.reading.proofs.reads.read_refusal.Statement.{statement}
 use Rattle.reading.proofs.reads.read_refusal.Tie as tie
+
+abbrev start : tie.After-loaded-refusal → tie.Start
+start c = c .before .before .before
+
+-- what is read
+abbrev given : tie.Start → Container
+given s = let a = s .args in containerOf (a .l) (a .lists .now) (a .image .now) (a .table .now)
+
+-- where tests 17, 18 and 19 pass, the task is asked for
+asked : (e : tie.Else1)
+    → let s = start (e .before) in
+    firstFailing (readTests (given s) (s .args .task)) ≡ firstFailing (test 14 (not (isTask (s .args .l .head .n) (s .args .task))) ∷ [])
+unfolding readTests
+asked e =
+    let k = given (start (e .before)) in
+    first-passes (loadedTests k) _ (loaded-numbered k) (sym (e .before .loaded-refusal .ensures) ∙ e .if1 .left)
 
 loaded-refusal-requires : tie.Need-loaded-refusal-requires
 loaded-refusal-requires c κs = search needs
@@ -17,42 +36,31 @@ loaded-refusal-requires c κs = search needs
 returns : tie.Need-returns
 unfolding readTests
 returns c =
-    let r = c .before .loaded-refusal in
-    let a = c .before .before .before .args in
-    let k = containerOf (a .l) (a .image .now) (a .table .now) in
-    r .ensures ∙ sym (first-fails (loadedTests k) _ (omega (arith, r .ensures, c .if1 .taken)))
+    let r = c .before in
+    r .loaded-refusal .ensures ∙ sym (first-fails (loadedTests (given (start r))) _ (omega (arith, r .loaded-refusal .ensures, c .if1 .taken)))
 
 returns-2 : tie.Need-returns-2
-unfolding readTests firstFailing
+unfolding firstFailing
 returns-2 c =
-    let r = c .before .before .loaded-refusal in
-    let a = c .before .before .before .before .args in
-    let k = containerOf (a .l) (a .image .now) (a .table .now) in
-    sym (first-passes (loadedTests k) _ (loaded-numbered k) (sym (r .ensures) ∙ c .before .if1 .left)
-    ∙ simp (lt-leb 1 (a .task) (c .if2 .taken)))
+    let e = c .before in
+    sym (asked e ∙ simp (lt-leb 1 (start (e .before) .args .task) (c .if2 .taken)))
 
 cast-if3 : tie.Need-cast-if3
 cast-if3 c = search needs
 
 returns-3 : tie.Need-returns-3
-unfolding readTests firstFailing
+unfolding firstFailing
 returns-3 c =
-    let s = c .before .before .before in
-    let r = s .before .loaded-refusal in
-    let a = s .before .before .before .args in
-    let k = containerOf (a .l) (a .image .now) (a .table .now) in
-    sym (first-passes (loadedTests k) _ (loaded-numbered k) (sym (r .ensures) ∙ s .if1 .left)
-    ∙ simp (within-over 1 (a .l .head .n) (a .task) (c .if3 .taken)))
+    let e = c .before .before .before in
+    let a = start (e .before) .args in
+    sym (asked e ∙ simp (within-over 1 (a .l .head .n) (a .task) (c .if3 .taken)))
 
 returns-4 : tie.Need-returns-4
-unfolding readTests firstFailing
+unfolding firstFailing
 returns-4 c =
-    let s = c .before .before .before in
-    let r = s .before .loaded-refusal in
-    let a = s .before .before .before .args in
-    let k = containerOf (a .l) (a .image .now) (a .table .now) in
-    sym (first-passes (loadedTests k) _ (loaded-numbered k) (sym (r .ensures) ∙ s .if1 .left)
-    ∙ simp (within-holds 1 (a .l .head .n) (a .task) (c .before .before .if2 .left) (c .if3 .left)))
+    let e = c .before .before .before in
+    let a = start (e .before) .args in
+    sym (asked e ∙ simp (within-holds 1 (a .l .head .n) (a .task) (c .before .before .if2 .left) (c .if3 .left)))
 
 pub read-refusal-spec : {M : Type 1} → statement M
 read-refusal-spec =

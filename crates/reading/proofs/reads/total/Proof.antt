@@ -5,7 +5,7 @@ use native.Mathlib.Omega.{arith}
 use borrow.Author.Needs.{needs}
 use Rattle.meta.specs.Refusals.{firstFailing}
 use Rattle.meta.proofs.Refusals.{when-accepted, when-refused}
-use Rattle.reading.specs.Reads.{Container, readTests, totalOf, totalAnswer}
+use Rattle.reading.specs.Reads.{Container, containerOf, readTests, totalOf, totalAnswer}
 use Rattle.reading.proofs.Stream.{counted}
 use Rattle.reading.proofs.reads.total.Statement.{statement}
 use Rattle.reading.proofs.reads.total.Tie as tie
@@ -21,6 +21,12 @@ module _ (c : Container) (task : ℕ) where
   unfolding totalAnswer
   accepted b e t = ap (counted 0) t ∙ sym (when-accepted _ _ _ e)
 
+-- where the tests pass
+passes : (e : tie.Else1)
+    → let a = e .before .before .before .before .args in
+    firstFailing (readTests (containerOf (a .l) (a .lists .now) (a .image .now) (a .table .now)) (a .task)) ≡ 0
+passes e = sym (e .before .read-refusal .ensures) ∙ e .if1 .left
+
 read-refusal-requires : tie.Need-read-refusal-requires
 read-refusal-requires c κs = search needs
 
@@ -28,10 +34,10 @@ returns : tie.Need-returns
 returns c = refused _ _ _ (c .before .read-refusal .ensures) (search needs)
 
 total-of-requires : tie.Need-total-of-requires
-total-of-requires c κs = search needs
+total-of-requires c κs = record { as-many = search needs; passes = passes (c .before) }
 
 returns-2 : tie.Need-returns-2
-returns-2 c = accepted _ _ _ (search needs) (c .total-of .ensures)
+returns-2 c = accepted _ _ _ (passes (c .before .before)) (c .total-of .ensures)
 
 pub total-spec : {M : Type 1} → statement M
 total-spec = tie.close (tie.spec read-refusal-requires returns total-of-requires returns-2)

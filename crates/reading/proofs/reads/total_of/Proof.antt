@@ -7,28 +7,38 @@ use borrow.Author.Needs.{needs}
 use Rattle.endian.specs.Below.{sumBelow}
 use Rattle.endian.specs.Signed.{natural}
 use Rattle.endian.proofs.Below.{sum-none, sum-more, sum-le, sum-cong}
-use Rattle.layout.specs.Limits.{maxSize, maxBlocks}
+use Rattle.layout.specs.Limits.{maxTasks, maxSize, maxBlocks}
 use Rattle.meta.specs.Meta2.{valueIndex}
-use Rattle.meta.specs.Heads.{cell}
+use Rattle.meta.specs.Heads.{entry, cell, countAt}
+use Rattle.meta.proofs.Stripes.{count-at}
 use Rattle.reading.specs.Reads.{Container, containerOf, used, writtenIn, totalOf}
 use Rattle.reading.proofs.Readable.{Readable, readable}
 use Rattle.reading.proofs.reads.total_of.Statement.{statement}
 use Rattle.reading.proofs.reads.total_of.Tie as tie
-use Rattle.reading.proofs.reads.total_of.Reads as reads
-use Rattle.reading.proofs.reads.total_of.Lts as lts
-use Rattle.meta.proofs.second.written.Reads as written-reads
 
 abbrev Inv-loop : tie.InvT-loop
-Inv-loop image table task n i count at₀ sum₀ k₀ at sum k =
+Inv-loop lists image table task n i count at₀ sum₀ k₀ at sum k =
     (k ≤ count) × (at ≡ valueIndex n k i) × (sum ≡ sumBelow k (λ j. natural (cell table (valueIndex n j i))))
 
 abbrev μ-loop : tie.MeasureT-loop
-μ-loop image table task n i count at₀ sum₀ k₀ at sum k = count - k
+μ-loop lists image table task n i count at₀ sum₀ k₀ at sum k = count - k
+
+abbrev start : tie.At-loop Inv-loop μ-loop → tie.Start Inv-loop μ-loop
+start c = c .before .before .before .before .before
 
 -- what the tests give, at the start
-given : (z : lts.Start (written-reads.Asked, written-reads.Learnt) reads.Pre reads.Post Inv-loop μ-loop)
-    → Readable (containerOf (z .args .t1) (z .args .image .now) (z .args .table .now)) (z .args .task)
-given z = readable _ _ (search needs) (z .pre)
+abbrev given : tie.Start Inv-loop μ-loop → Container
+given z = let a = z .args in containerOf (a .l) (a .lists .now) (a .image .now) (a .table .now)
+
+known : (z : tie.Start Inv-loop μ-loop) → Readable (given z) (z .args .task)
+known z = readable _ _ (z .pre)
+
+listed : (z : tie.Start Inv-loop μ-loop) → z .args .task - 1 < maxTasks
+listed z = let r = known z in omega (arith, r .first-task, r .last-task, r .sound .tasks)
+
+counted : (z : tie.Start Inv-loop μ-loop) → entry (z .args .lists .now) (countAt (z .args .task - 1)) ≡ used (given z) (z .args .task)
+unfolding used
+counted z = count-at (z .args .lists .now) (z .args .task - 1) (listed z)
 
 module _ (c : Container) (task : ℕ) (r : Readable c task) where
   abbrev value : ℕ → ℕ
@@ -52,47 +62,54 @@ cast-n : tie.Need-cast-n Inv-loop μ-loop
 cast-n c = search needs
 
 sub-i : tie.Need-sub-i Inv-loop μ-loop
-sub-i c = given (c .before) .first-task
+sub-i c = known (c .before .before .before) .first-task
+
+add-count : tie.Need-add-count Inv-loop μ-loop
+add-count c = omega (arith, listed (c .before .before .before))
 
 mul-count : tie.Need-mul-count Inv-loop μ-loop
-mul-count c = let r = given (c .before) in omega (arith, r .last-task, r .sound .tasks)
+mul-count c = omega (arith, listed (c .before .before .before))
 
-element-copy-out-count : tie.Need-element-copy-out-count Inv-loop μ-loop
-element-copy-out-count c = let r = given (c .before) in omega (arith, r .first-task, r .last-task, r .sound .tasks)
+shared-slice-read-count : tie.Need-shared-slice-read-count Inv-loop μ-loop
+shared-slice-read-count c =
+    let z = c .before .before .before .before in
+    omega (arith, listed z, z .pre .as-many)
 
 loop-holds : tie.Need-loop-holds Inv-loop μ-loop
 loop-holds c = (search needs, omega arith, sym (sum-none _))
 
+-- chunk k + 1 of a turn is in use
+in-use : (c : tie.In-loop Inv-loop μ-loop)
+    → let z = start (c .before) in
+    c .before .loop .k < used (given z) (z .args .task)
+in-use c = omega (arith, counted (start (c .before)), c .loop-test .taken)
+
 written-requires : tie.Need-written-requires Inv-loop μ-loop
-unfolding used
 written-requires c κs =
     let l = c .before .loop in
-    rw (l .inv .1) (given (c .before .before .before .before) .listed (l .k) (c .loop-test .taken))
+    rw (l .inv .1) (known (start (c .before)) .listed (l .k) (in-use c))
 
 add-sum : tie.Need-add-sum Inv-loop μ-loop
-unfolding used
 add-sum c =
     let l = c .before .before .loop in
-    let s = small _ _ (given (c .before .before .before .before .before)) (l .k) (c .before .loop-test .taken) in
+    let s = small _ _ (known (start (c .before .before))) (l .k) (in-use (c .before)) in
     omega (arith, l .inv .2, rw (l .inv .1) at (c .written .ensures))
 
 add-at : tie.Need-add-at Inv-loop μ-loop
-unfolding used
 add-at c =
     let l = c .before .before .loop in
-    let r = given (c .before .before .before .before .before) in
-    omega (arith, l .inv .1, r .listed (l .k) (c .before .loop-test .taken), r .sound .tasks)
+    let r = known (start (c .before .before)) in
+    omega (arith, l .inv .1, r .listed (l .k) (in-use (c .before)), r .sound .tasks)
 
 add-k : tie.Need-add-k Inv-loop μ-loop
-unfolding used
-add-k c = omega (arith, given (c .before .before .before .before .before) .few)
+add-k c = omega (arith, known (start (c .before .before)) .few, in-use (c .before))
 
 loop-less : tie.Need-loop-less Inv-loop μ-loop
 loop-less c = search needs
 
 loop-again : tie.Need-loop-again Inv-loop μ-loop
 loop-again c =
-    let z = c .before .before .before .before .before in
+    let z = start (c .before .before) in
     let l = c .before .before .loop in (
       search needs,
       omega (arith, l .inv .1),
@@ -100,10 +117,10 @@ loop-again c =
     )
 
 returns : tie.Need-returns Inv-loop μ-loop
-unfolding used
 returns c =
+    let z = start (c .before) in
     let l = c .before .loop in
-    l .inv .2 ∙ whole _ _ (given (c .before .before .before .before)) (l .k) (l .inv .0) (c .loop-test .left)
+    l .inv .2 ∙ whole _ _ (known z) (l .k) (omega (arith, l .inv .0, counted z)) (omega (arith, c .loop-test .left, counted z))
 
 pub total-of-spec : {M : Type 1} → statement M
 total-of-spec =
@@ -113,8 +130,9 @@ total-of-spec =
     μ-loop
     cast-n
     sub-i
+    add-count
     mul-count
-    element-copy-out-count
+    shared-slice-read-count
     loop-holds
     written-requires
     add-sum

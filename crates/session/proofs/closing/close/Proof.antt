@@ -1,33 +1,37 @@
--- `session::closing::close` meets its contract. Assumes nothing.
-use mathlib.Core.Path.{_≡_, sym, ap, _∙_}
-use Prim.Native.Nat.{ℕ, _<_}
+-- `session::closing::close` meets its contract: refused, nothing is stored; accepted, what the definitions of closing say. Assumes nothing.
+use mathlib.Core.Path.{_≡_, sym, ap, ap₂, _∙_}
+use Prim.Native.Nat.{ℕ, _<_, _≤_}
 use native.Mathlib.Omega.{arith}
-use lib.ListN.{length}
 use borrow.Author.Needs.{needs}
-use Rattle.layout.specs.Limits.{maxTasks, Sound}
-use Rattle.meta.specs.Refusals.{firstFailing}
-use Rattle.meta.specs.Heads.{endAt}
+use Rattle.layout.specs.Limits.{maxTasks}
+use Rattle.meta.specs.Heads.{allLists, sizeOf, endAt}
+use Rattle.meta.proofs.Records.{head-tasks, head-kept}
 use Rattle.meta.proofs.Refusals.{when-accepted, when-refused}
-use Rattle.meta.proofs.Records.{head-kept}
-use Rattle.session.specs.Records.{stateOf, sessionTests, marked}
-use Rattle.session.specs.Close.{maxchunksOf, finished, closeRefusal, closedImage, closeAnswer, closeImage}
-use Rattle.session.proofs.Sessions.{state-holds}
+use Rattle.session.specs.Records.{State, stateOf, marked}
+use Rattle.session.specs.Close.{closeRefusal, finished, used, closedImage, closeAnswer, closeImage}
+use Rattle.session.proofs.Sessions.{StateHolds, state-holds}
 use Rattle.session.proofs.Closings.{Closes, closes}
 use Rattle.session.proofs.closing.close.Statement.{statement}
 use Rattle.session.proofs.closing.close.Tie as tie
 
+abbrev start : tie.After-session-refusal → tie.Start
+start c = c .before .before .before .before
+
+-- the session that is lent
+abbrev lent : tie.Start → State
+lent s = let a = s .args in stateOf (a .s) (a .lists .now) (a .image .now) (a .table .now)
+
 -- what the tests give
-known : (e : tie.Else1)
-    → let a = e .before .before .before .before .before .before .before .before .before .before .before .before .before .args in
-    let st = stateOf (a .t1) (a .image .now) (a .table .now) in
-    (firstFailing (sessionTests st) ≡ 0) × Sound (a .t1 .head .blocksize) (a .t1 .head .n) (a .t1 .head .sizes) × Closes st
-known e =
-    let s = e .before .before .before .before .before .before .before .before .before .before .before .before .before in
-    let l = s .args .t1 in
-    let none = sym (e .before .session-refusal .ensures (l .head .version) (l .head .patch)) ∙ e .if1 .left in
-    let h = state-holds (stateOf l (s .args .image .now) (s .args .table .now)) none in
-    let long : length (l .head .sizes) ≡ maxTasks = search needs in
-    (none, head-kept (l .head) (h .sound .head) long, closes _ h)
+passes : (e : tie.Else1) → closeRefusal (lent (start (e .before))) ≡ 0
+unfolding closeRefusal
+passes e = sym (e .before .session-refusal .ensures) ∙ e .if1 .left
+
+known : (e : tie.Else1) → StateHolds (lent (start (e .before)))
+unfolding closeRefusal
+known e = state-holds _ (passes e)
+
+few : (e : tie.Else1) → start (e .before) .args .s .head .n ≤ maxTasks
+few e = head-tasks _ _ (known e .sound .head) .1
 
 session-refusal-requires : tie.Need-session-refusal-requires
 session-refusal-requires c κs = search needs
@@ -36,46 +40,54 @@ same-length : tie.Need-same-length
 same-length c = search needs
 
 returns : tie.Need-returns
-unfolding closeRefusal closeAnswer closeImage
+unfolding closeAnswer closeImage closeRefusal
 returns c =
-    let a = c .before .before .before .before .before .before .before .before .before .before .before .before .before .args in
-    let st = stateOf (a .t1) (a .image .now) (a .table .now) in
-    let e = c .before .session-refusal .ensures (a .t1 .head .version) (a .t1 .head .patch) in
+    let r = c .before in
+    let st = lent (start r) in
+    let e = r .session-refusal .ensures in
     let some : 0 < closeRefusal st = omega (arith, e, c .if1 .taken) in (
-      ap (λ (r : ℕ). record { refusal = r; session = a .t1; length = 0 }) e ∙ sym (when-refused (closeRefusal st) _ _ some),
+      ap (λ (n : ℕ). record { refusal = n; session = st .session; length = 0 }) e ∙ sym (when-refused (closeRefusal st) _ _ some),
       sym (when-refused (closeRefusal st) _ _ some),
     )
 
-cast-greatest : tie.Need-cast-greatest
-cast-greatest c = search needs
-
-greatest-requires : tie.Need-greatest-requires
-greatest-requires c κs = omega (arith, known (c .before .before .before) .1 .tasks)
+most-chunks-requires : tie.Need-most-chunks-requires
+most-chunks-requires c κs = (search needs, few (c .before))
 
 cast-maxchunks : tie.Need-cast-maxchunks
-unfolding maxchunksOf
-cast-maxchunks c = omega (arith, c .greatest .ensures, known (c .before .before .before .before) .2 .few)
+cast-maxchunks c =
+    let k = closes _ (known (c .before .before)) in
+    omega (arith, k .few, c .most-chunks .ensures)
 
 finish-requires : tie.Need-finish-requires
-unfolding maxchunksOf
 finish-requires c κs =
-    let (none, sound, k) = known (c .before .before .before .before .before .before .before .before) in
-    rw (c .before .before .before .before .greatest .ensures) ((sound, k .few), (omega (arith, sound .tasks), k .table-long, k .image-long))
+    let m = c .before .before in
+    let e = m .before .before in
+    let h = known e in
+    let k = closes _ h in
+    rw (m .most-chunks .ensures) (record {
+      as-many = search needs;
+      sound = head-kept _ _ (h .sound .head) (search needs);
+      few = k .few;
+      table-long = k .table-long;
+      image-long = k .image-long;
+    })
 
 same-length-2 : tie.Need-same-length-2
 same-length-2 c = search needs
 
 returns-2 : tie.Need-returns-2
-unfolding maxchunksOf closeRefusal closeAnswer closeImage closedImage
+unfolding closeAnswer closeImage closedImage
 returns-2 c =
-    let a = c .before .before .before .before .before .before .before .before .before .before .before .before .before .before .before .before .before .before .before .before .before .before .before .before .args in
-    let st = stateOf (a .t1) (a .image .now) (a .table .now) in
-    let zero = known (c .before .before .before .before .before .before .before .before .before .before .before) .0 in
-    let f = c .before .before .finish .ensures in
-    let most = c .before .before .before .before .before .before .before .greatest .ensures in (
-      ap (λ (l : ℕ). record { refusal = 0; session = marked (a .t1); length = l }) (f .1 ∙ ap (endAt (a .t1 .head)) most)
+    let f = c .before .before in
+    let m = f .before .before .before in
+    let e = m .before .before in
+    let st = lent (start (e .before)) in
+    let zero = passes e in
+    let most = m .most-chunks .ensures in (
+      ap (λ (l : ℕ). record { refusal = 0; session = marked (st .session); length = l })
+          (f .finish .ensures .1 ∙ ap (endAt (st .session .head) (sizeOf (st .lists))) most)
           ∙ sym (when-accepted (closeRefusal st) _ _ zero),
-      f .0 ∙ ap (λ (m : ℕ). finished (a .t1 .head) m (a .t1 .counts) (a .table .now) (a .image .now)) most
+      f .finish .ensures .0 ∙ ap (λ (m : ℕ). finished (st .session .head) (st .lists) m (st .table) (st .image)) most
           ∙ sym (when-accepted (closeRefusal st) _ _ zero),
     )
 
@@ -86,8 +98,7 @@ close-spec =
     session-refusal-requires
     same-length
     returns
-    cast-greatest
-    greatest-requires
+    most-chunks-requires
     cast-maxchunks
     finish-requires
     same-length-2

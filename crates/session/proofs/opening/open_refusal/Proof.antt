@@ -1,4 +1,4 @@
--- `session::opening::open_refusal` meets its contract: each return by the tests that led there, whatever the two version numbers. Assumes nothing.
+-- `session::opening::open_refusal` meets its contract: each return by the tests that led there. Assumes nothing.
 use mathlib.Core.Path.{_≡_, sym, ap, subst, _∙_}
 use mathlib.Core.Logic.{_⊎_, inl, inr}
 use Prim.Native.Nat.{ℕ, _<_, _≤_}
@@ -25,33 +25,43 @@ module _ (o : Opening) (image cells : ℕ) (r : Needed) (e : r ≡ needsAnswer o
       subst (λ (a : Needed). a .refusal ≡ 0 → a .image ≤ image → a .cells ≤ cells → 0 ≡ openRefusal o image cells) (sym e)
       (λ none i t. sym (open-enough o image cells none i t))
 
+abbrev start : tie.After-needs → tie.Start
+start c = c .before .before .before .before
+
+-- what the opening is given
+abbrev given : tie.Start → Opening
+given s = let a = s .args in openingOf (a .plan) (a .ranks .now) (a .sizes .now) (a .prefix .now)
+
 needs-requires : tie.Need-needs-requires
 needs-requires c κs = search needs
 
 returns : tie.Need-returns
-returns c v p =
-    let a = c .before .before .before .before .before .before .args in
-    let o = openingOf (a .order) v p (a .blocksize) (a .ranks .now) (a .sizes .now) (a .prefix .now) (a .planned) in
-    refused o (a .image) (a .cells) _ (c .before .before .needs .ensures v p) (omega (arith, c .if1 .taken))
+returns c =
+    let n = c .before .before in
+    let s = start n in
+    refused (given s) (s .args .image) (s .args .cells) _ (n .needs .ensures) (omega (arith, c .if1 .taken))
 
 returns-2 : tie.Need-returns-2
-returns-2 c v p =
-    let a = c .before .before .before .before .before .before .before .before .args in
-    let o = openingOf (a .order) v p (a .blocksize) (a .ranks .now) (a .sizes .now) (a .prefix .now) (a .planned) in
-    short o (a .image) (a .cells) _ (c .before .before .before .before .needs .ensures v p) (c .before .before .if1 .left) (inl (c .if2 .taken))
+returns-2 c =
+    let e = c .before .before in
+    let n = e .before .before in
+    let s = start n in
+    short (given s) (s .args .image) (s .args .cells) _ (n .needs .ensures) (e .if1 .left) (inl (c .if2 .taken))
 
 returns-3 : tie.Need-returns-3
-returns-3 c v p =
-    let a = c .before .before .before .before .before .before .before .before .before .before .args in
-    let o = openingOf (a .order) v p (a .blocksize) (a .ranks .now) (a .sizes .now) (a .prefix .now) (a .planned) in
-    short o (a .image) (a .cells) _ (c .before .before .before .before .before .before .needs .ensures v p) (c .before .before .before .before .if1 .left) (inr (c .if3 .taken))
+returns-3 c =
+    let e = c .before .before .before .before in
+    let n = e .before .before in
+    let s = start n in
+    short (given s) (s .args .image) (s .args .cells) _ (n .needs .ensures) (e .if1 .left) (inr (c .if3 .taken))
 
 returns-4 : tie.Need-returns-4
-returns-4 c v p =
-    let a = c .before .before .before .before .before .before .before .before .before .before .args in
-    let o = openingOf (a .order) v p (a .blocksize) (a .ranks .now) (a .sizes .now) (a .prefix .now) (a .planned) in
-    enough o (a .image) (a .cells) _ (c .before .before .before .before .before .before .needs .ensures v p) (c .before .before .before .before .if1 .left) (c .before .before .if2 .left)
-    (c .if3 .left)
+returns-4 c =
+    let l = c .before .before in
+    let e = l .before .before in
+    let n = e .before .before in
+    let s = start n in
+    enough (given s) (s .args .image) (s .args .cells) _ (n .needs .ensures) (e .if1 .left) (l .if2 .left) (c .if3 .left)
 
 pub open-refusal-spec : {M : Type 1} → statement M
 open-refusal-spec = tie.close (tie.spec needs-requires returns returns-2 returns-3 returns-4)

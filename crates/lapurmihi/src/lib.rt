@@ -1,0 +1,133 @@
+// The container's entries for C and Rust, with their own promises. The header is include/lapurmihi.h. A record is its numbers by value and its
+// lists as one lent array; a function whose name ends in `_lent` takes it so.
+ghost use mathlib.Core.Path.{_≡_};
+ghost use Prim.Native.Nat.{_+_, _≤_};
+ghost use lib.ListN.{length};
+ghost use Rattle.session.specs.declared.record.Session.{Session};
+ghost use Rattle.session.specs.declared.record.Plan.{Plan};
+ghost use Rattle.session.specs.declared.record.Needed.{Needed};
+ghost use Rattle.session.specs.declared.record.Opened.{Opened};
+ghost use Rattle.session.specs.declared.record.Closed.{Closed};
+ghost use Rattle.session.specs.Records.{stateOf};
+ghost use Rattle.session.specs.Open.{openingOf, needsAnswer, openAnswer, openImage, openTable};
+ghost use Rattle.session.specs.Write.{requestOf, writeRefusal, afterWrite};
+ghost use Rattle.session.specs.Close.{closeAnswer, closeImage};
+ghost use Rattle.reading.specs.declared.record.Loaded.{Loaded};
+ghost use Rattle.reading.specs.declared.record.LoadAnswer.{LoadAnswer};
+ghost use Rattle.reading.specs.declared.record.Part.{Part};
+ghost use Rattle.reading.specs.declared.record.ByteCount.{ByteCount};
+ghost use Rattle.reading.specs.Load.{loadAnswer, loadTable};
+ghost use Rattle.reading.specs.Reads.{containerOf, partAnswer, totalAnswer, readAnswer, readOutput};
+use meta::head::LISTS;
+use reading::record::ByteCount;
+use reading::record::LoadAnswer;
+use reading::record::Loaded;
+use reading::record::Part;
+use session::record::Closed;
+use session::record::Needed;
+use session::record::Opened;
+use session::record::Plan;
+use session::record::Session;
+
+#[no_mangle]
+pub extern "C" fn lapur_needs(plan: Plan, ranks: &[u64], sizes: &[u64], prefix: &[u8]) -> Needed
+    ensures { λ r. ⌜ r ≡ needsAnswer (openingOf plan (now (ranks .entry)) (now (sizes .entry)) (now (prefix .entry))) ⌝ }
+{
+    container::needs(plan, ranks, sizes, prefix)
+}
+
+#[no_mangle]
+pub extern "C" fn lapur_open(
+    plan: Plan,
+    ranks: &[u64],
+    sizes: &[u64],
+    prefix: &[u8],
+    image: &mut [u8],
+    table: &mut [i64],
+) -> Opened
+    ensures { λ r. ⌜ r ≡ openAnswer (openingOf plan (now (ranks .entry)) (now (sizes .entry)) (now (prefix .entry))) (now (image .entry)) (now (table .entry)) ⌝ }
+    ensures { λ _. ⌜ now (image .exit) ≡ openImage (openingOf plan (now (ranks .entry)) (now (sizes .entry)) (now (prefix .entry))) (now (image .entry)) (now (table .entry)) ⌝ }
+    ensures { λ _. ⌜ now (table .exit) ≡ openTable (openingOf plan (now (ranks .entry)) (now (sizes .entry)) (now (prefix .entry))) (now (image .entry)) (now (table .entry)) ⌝ }
+{
+    container::open(plan, ranks, sizes, prefix, image, table)
+}
+
+#[no_mangle]
+pub extern "C" fn lapur_write_lent(
+    s: Session,
+    lists: &mut [u64; LISTS],
+    image: &mut [u8],
+    table: &mut [i64],
+    task: u64,
+    bytes: &[u8],
+) -> u32
+    ensures { λ r. ⌜ r ≡ writeRefusal (stateOf s (now (lists .entry)) (now (image .entry)) (now (table .entry))) (requestOf task (now (bytes .entry))) ⌝ }
+    ensures { λ _. ⌜ stateOf s (now (lists .exit)) (now (image .exit)) (now (table .exit)) ≡ afterWrite (stateOf s (now (lists .entry)) (now (image .entry)) (now (table .entry))) (requestOf task (now (bytes .entry))) ⌝ }
+{
+    container::write(s, lists, image, table, task, bytes)
+}
+
+#[no_mangle]
+pub extern "C" fn lapur_close_lent(
+    s: Session,
+    lists: &[u64; LISTS],
+    image: &mut [u8],
+    table: &[i64],
+) -> Closed
+    ensures { λ r. ⌜ r ≡ closeAnswer (stateOf s (now (lists .entry)) (now (image .entry)) (now (table .entry))) ⌝ }
+    ensures { λ _. ⌜ now (image .exit) ≡ closeImage (stateOf s (now (lists .entry)) (now (image .entry)) (now (table .entry))) ⌝ }
+{
+    container::close(s, lists, image, table)
+}
+
+#[no_mangle]
+pub extern "C" fn lapur_load(image: &[u8], table: &mut [i64]) -> LoadAnswer
+    ensures { λ r. ⌜ r ≡ loadAnswer (now (image .entry)) (now (table .entry)) ⌝ }
+    ensures { λ _. ⌜ now (table .exit) ≡ loadTable (now (image .entry)) (now (table .entry)) ⌝ }
+{
+    container::load(image, table)
+}
+
+#[no_mangle]
+pub extern "C" fn lapur_chunk_lent(
+    l: Loaded,
+    lists: &[u64; LISTS],
+    image: &[u8],
+    table: &[i64],
+    task: u64,
+    chunk: u64,
+) -> Part
+    ensures { λ r. ⌜ r ≡ partAnswer (containerOf l (now (lists .entry)) (now (image .entry)) (now (table .entry))) task chunk ⌝ }
+    ensures { λ r. ⌜ r .start + r .length ≤ length (now (image .entry)) ⌝ }
+{
+    container::part(l, lists, image, table, task, chunk)
+}
+
+#[no_mangle]
+pub extern "C" fn lapur_total_lent(
+    l: Loaded,
+    lists: &[u64; LISTS],
+    image: &[u8],
+    table: &[i64],
+    task: u64,
+) -> ByteCount
+    ensures { λ r. ⌜ r ≡ totalAnswer (containerOf l (now (lists .entry)) (now (image .entry)) (now (table .entry))) task ⌝ }
+{
+    container::total(l, lists, image, table, task)
+}
+
+#[no_mangle]
+pub extern "C" fn lapur_read_lent(
+    l: Loaded,
+    lists: &[u64; LISTS],
+    image: &[u8],
+    table: &[i64],
+    task: u64,
+    p: u64,
+    out: &mut [u8],
+) -> ByteCount
+    ensures { λ r. ⌜ r ≡ readAnswer (containerOf l (now (lists .entry)) (now (image .entry)) (now (table .entry))) task p (now (out .entry)) ⌝ }
+    ensures { λ _. ⌜ now (out .exit) ≡ readOutput (containerOf l (now (lists .entry)) (now (image .entry)) (now (table .entry))) task p (now (out .entry)) ⌝ }
+{
+    container::read(l, lists, image, table, task, p, out)
+}

@@ -1,0 +1,13 @@
+-- `meta::first::no_fixed` meets its contract. Assumes nothing.
+use borrow.Author.Needs.{needs}
+use Rattle.meta.proofs.first.no_fixed.Statement.{statement}
+use Rattle.meta.proofs.first.no_fixed.Tie as tie
+
+no-head-requires : tie.Need-no-head-requires
+no-head-requires c κs = search needs
+
+returns : tie.Need-returns
+returns c = λ i. record { refusal = c .before .args .refusal; head = c .no-head .ensures i }
+
+pub no-fixed-spec : {M : Type 1} → statement M
+no-fixed-spec = tie.close (tie.spec no-head-requires returns)

@@ -1,0 +1,213 @@
+/*
+ * Holds the header's inline functions to the whole record that they are given: with any one of its numbers or entries spoilt a call is refused
+ * with 17 and changes nothing, and what is not judged comes through a session as it was. It is C, and C++ too; tests/example runs it as both.
+ */
+#include <stdio.h>
+#include <stdlib.h>
+#include <string.h>
+
+#include "lapurmihi.h"
+
+enum { TASKS = 3, K = 2, CELLS = TASKS * K, BYTES = 16384 };
+
+static const uint64_t ranks[TASKS] = {5, 0, 9}, sizes[TASKS] = {100, 600, 512};
+static const uint8_t line[] = "22:10 to Irun, platform 1\n";
+
+/* What is written: so many lines to each task, of which so many bytes stand in its first chunk. */
+enum { LINE = sizeof line - 1 };
+static const uint64_t lines[TASKS] = {4, 0, 1}, first[TASKS] = {3 * LINE, 0, LINE}, begun[TASKS] = {2, 0, 1};
+
+/* A session or a load with all its memory. */
+struct session { struct lapur_session record; uint8_t image[BYTES]; int64_t table[CELLS]; };
+struct load { struct lapur_loaded record; uint8_t image[BYTES]; int64_t table[CELLS]; };
+
+static void hold(int holds, const char *what, int which)
+{
+    if (!holds) {
+        fprintf(stderr, "records: %s, case %d\n", what, which);
+        exit(EXIT_FAILURE);
+    }
+}
+
+static int same_lists(const uint64_t *one, const uint64_t *other)
+{
+    return memcmp(one, other, LAPUR_LISTS * sizeof *one) == 0;
+}
+
+/* Field by field: the bytes between the fields of a record may be any. */
+static int same_session(struct session *one, struct session *other)
+{
+    return memcmp(&one->record.numbers, &other->record.numbers, sizeof one->record.numbers) == 0
+        && same_lists(lapur_session_lists(&one->record), lapur_session_lists(&other->record))
+        && memcmp(one->image, other->image, sizeof one->image) == 0 && memcmp(one->table, other->table, sizeof one->table) == 0;
+}
+
+static uint32_t write_to(struct session *s, uint64_t task, size_t length)
+{
+    return lapur_write(&s->record, s->image, BYTES, s->table, CELLS, task, line, length);
+}
+
+static struct lapur_closed closed(struct session *s)
+{
+    return lapur_close(&s->record, s->image, BYTES, s->table, CELLS);
+}
+
+/* Spoils one thing that test 17 judges, the first of each list and the last; says whether there is such a case. */
+static int spoil_session(struct lapur_session *session, int which)
+{
+    switch (which) {
+    case 0: session->numbers.order = 2; return 1;
+    case 1: session->numbers.blocksize = 768; return 1;
+    case 2: session->numbers.n = 0; return 1;
+    case 3: session->numbers.n = LAPUR_TASKS + 1; return 1;
+    case 4: session->numbers.planned = LAPUR_BLOCKS + 1; return 1;
+    case 5: session->numbers.closed = 1; return 1;
+    case 6: session->ranks[0] = UINT64_MAX; return 1;
+    case 7: session->ranks[TASKS - 1] = session->ranks[0]; return 1;
+    case 8: session->sizes[0] = 0; return 1;
+    case 9: session->sizes[TASKS - 1] = UINT64_MAX; return 1;
+    case 10: session->counts[0] = K + 1; return 1;
+    case 11: session->counts[TASKS - 1] = K + 1; return 1;
+    default: return 0;
+    }
+}
+
+static int spoil_loaded(struct lapur_loaded *loaded, int which)
+{
+    switch (which) {
+    case 0: loaded->numbers.order = 2; return 1;
+    case 1: loaded->numbers.blocksize = 768; return 1;
+    case 2: loaded->numbers.n = 0; return 1;
+    case 3: loaded->numbers.n = LAPUR_TASKS + 1; return 1;
+    case 4: loaded->numbers.maxchunks++; return 1;
+    case 5: loaded->numbers.closed = 1; return 1;
+    case 6: loaded->ranks[0] = UINT64_MAX; return 1;
+    case 7: loaded->ranks[TASKS - 1] = loaded->ranks[0]; return 1;
+    case 8: loaded->sizes[0] = 0; return 1;
+    case 9: loaded->sizes[TASKS - 1] = UINT64_MAX; return 1;
+    case 10: loaded->counts[0] = K + 1; return 1;
+    case 11: loaded->counts[TASKS - 1] = K + 1; return 1;
+    default: return 0;
+    }
+}
+
+/* Opens a session and writes to it. */
+static void fill(struct session *s, uint32_t order)
+{
+    struct lapur_plan plan = {order, -3, 77, 512, K};
+    struct lapur_needed needed = lapur_needs(plan, ranks, TASKS, sizes, TASKS, line, LINE);
+    hold(needed.refusal == 0 && needed.image <= BYTES && needed.cells == CELLS, "what the plan needs", (int)order);
+    memset(s, 0, sizeof *s);
+    struct lapur_opened opened = lapur_open(plan, ranks, TASKS, sizes, TASKS, line, LINE, s->image, BYTES, s->table, CELLS);
+    hold(opened.refusal == 0, "the opening", (int)order);
+    s->record = opened.session;
+    const struct lapur_session_numbers numbers = {order, -3, 77, 512, TASKS, K, 0};
+    uint64_t lists[LAPUR_LISTS] = {0};
+    memcpy(lists, ranks, sizeof ranks);
+    memcpy(lists + LAPUR_TASKS, sizes, sizeof sizes);
+    hold(memcmp(&s->record.numbers, &numbers, sizeof numbers) == 0, "the numbers of a session just opened", (int)order);
+    hold(same_lists(lapur_session_lists(&s->record), lists), "the lists of a session just opened", (int)order);
+
+    for (uint64_t task = 1; task <= TASKS; task++)
+        for (uint64_t i = 0; i < lines[task - 1]; i++)
+            hold(write_to(s, task, LINE) == 0, "a write", (int)task);
+    memcpy(lists + 2 * LAPUR_TASKS, begun, sizeof begun);
+    hold(memcmp(&s->record.numbers, &numbers, sizeof numbers) == 0, "the numbers of a session after writes", (int)order);
+    hold(same_lists(lapur_session_lists(&s->record), lists), "the lists of a session after writes", (int)order);
+}
+
+/* Each thing spoilt: 17, and nothing has moved. */
+static int refused_session(const struct session *good)
+{
+    static struct session spoilt, before;
+    int which;
+    for (which = 0; spoilt = *good, spoil_session(&spoilt.record, which); which++) {
+        before = spoilt;
+        hold(write_to(&spoilt, 1, 1) == LAPUR_BAD_RECORD, "a write over a spoilt record", which);
+        struct lapur_closed answer = closed(&spoilt);
+        hold(answer.refusal == LAPUR_BAD_RECORD && answer.length == 0, "a close of a spoilt record", which);
+        hold(same_session(&spoilt, &before), "what refused calls left", which);
+    }
+    return which;
+}
+
+/* What is not judged is any, and stays; then the close marks the record. */
+static void close_it(struct session *s)
+{
+    static struct session before;
+    s->record.numbers.version = INT32_MIN;
+    s->record.numbers.patch = -1;
+    s->record.ranks[TASKS] = s->record.sizes[TASKS] = s->record.counts[LAPUR_TASKS - 1] = UINT64_MAX;
+    before = *s;
+    hold(write_to(s, 2, 0) == 0 && same_session(s, &before), "an empty write", 0);
+    struct lapur_closed answer = closed(s);
+    hold(answer.refusal == 0 && answer.length > 0 && answer.length <= BYTES, "a close", 0);
+    before.record.numbers.closed = 1;
+    memcpy(before.image, s->image, sizeof before.image);
+    hold(same_session(s, &before), "what a close left", 0);
+    before = *s;
+    hold(closed(s).refusal == LAPUR_BAD_RECORD && write_to(s, 1, 1) == LAPUR_BAD_RECORD, "calls of a closed session", 0);
+    hold(same_session(s, &before), "what calls of a closed session left", 0);
+}
+
+static int refused_reads(const struct load *good)
+{
+    static struct load spoilt;
+    int which;
+    for (which = 0; spoilt = *good, spoil_loaded(&spoilt.record, which); which++) {
+        uint8_t out[4] = {7, 7, 7, 7};
+        const struct lapur_loaded *record = &spoilt.record;
+        struct lapur_part part = lapur_chunk(record, spoilt.image, BYTES, spoilt.table, CELLS, 1, 1);
+        struct lapur_byte_count total = lapur_total(record, spoilt.image, BYTES, spoilt.table, CELLS, 1);
+        struct lapur_byte_count copied = lapur_read(record, spoilt.image, BYTES, spoilt.table, CELLS, 1, 0, out, sizeof out);
+        hold(part.refusal == LAPUR_BAD_RECORD && part.start == 0 && part.length == 0, "a chunk of a spoilt record", which);
+        hold(total.refusal == LAPUR_BAD_RECORD && total.bytes == 0, "a total of a spoilt record", which);
+        hold(copied.refusal == LAPUR_BAD_RECORD && copied.bytes == 0, "a read of a spoilt record", which);
+        hold(out[0] == 7 && out[3] == 7, "the output of a refused read", which);
+    }
+    return which;
+}
+
+/* The closed container has what was written, whatever is put where the record is not judged. */
+static void read_it(struct load *l, const struct session *s)
+{
+    memcpy(l->image, s->image, sizeof l->image);
+    struct lapur_load_answer answer = lapur_load(l->image, BYTES, l->table, CELLS);
+    hold(answer.refusal == 0, "the load", 0);
+    l->record = answer.loaded;
+    const struct lapur_loaded_numbers numbers = {s->record.numbers.order, -3, 77, 512, TASKS, K, 0};
+    hold(memcmp(&l->record.numbers, &numbers, sizeof numbers) == 0, "the numbers of a load", 0);
+    l->record.numbers.version = 0;
+    l->record.numbers.patch = INT32_MAX;
+    l->record.ranks[TASKS] = l->record.sizes[TASKS] = l->record.counts[LAPUR_TASKS - 1] = UINT64_MAX;
+    for (uint64_t task = 1; task <= TASKS; task++) {
+        uint8_t out[4 * LINE + 1];
+        const struct lapur_loaded *record = &l->record;
+        struct lapur_byte_count total = lapur_total(record, l->image, BYTES, l->table, CELLS, task);
+        struct lapur_byte_count copied = lapur_read(record, l->image, BYTES, l->table, CELLS, task, 0, out, sizeof out);
+        struct lapur_part part = lapur_chunk(record, l->image, BYTES, l->table, CELLS, task, 1);
+        hold(total.refusal == 0 && total.bytes == lines[task - 1] * LINE, "a total", (int)task);
+        hold(copied.refusal == 0 && copied.bytes == total.bytes, "a read", (int)task);
+        hold(part.refusal == (uint32_t)(begun[task - 1] == 0 ? LAPUR_NO_CHUNK : 0), "a chunk", (int)task);
+        hold(part.length == first[task - 1], "the length of a chunk", (int)task);
+        hold(memcmp(l->image + part.start, out, (size_t)part.length) == 0, "the bytes of a chunk", (int)task);
+        for (uint64_t i = 0; i < copied.bytes; i++)
+            hold(out[i] == line[i % LINE], "the bytes of a read", (int)task);
+    }
+}
+
+int main(void)
+{
+    static struct session session;
+    static struct load load;
+    int spoilt = 0;
+    for (uint32_t order = LAPUR_LITTLE; order <= LAPUR_BIG; order++) {
+        fill(&session, order);
+        spoilt += refused_session(&session);
+        close_it(&session);
+        read_it(&load, &session);
+        spoilt += refused_reads(&load);
+    }
+    printf("%d spoilt records\n", spoilt);
+    return 0;
+}
