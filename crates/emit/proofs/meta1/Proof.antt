@@ -27,7 +27,7 @@ abbrev from-ranks : tie.After-put-list → tie.After-put-fixed
 from-ranks c = c .before .before .before .before .before
 
 abbrev from-sizes : tie.After-put-list2 → tie.After-put-list
-from-sizes c = c .before .before .before .before .before .before
+from-sizes c = let k = c .before .before .before in k .before .before .before
 
 cast-n : tie.Need-cast-n
 cast-n c = search needs

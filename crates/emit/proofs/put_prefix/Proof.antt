@@ -32,17 +32,19 @@ same-length c = search needs
 
 returns : tie.Need-returns
 returns c =
-    let z = c .before .before .before .before .before .before .before .before .before .before in
+    let padded = c .before .before in
+    let copy = padded .before .before .before .before in
+    let z = copy .before .before .before .before in
     let a = z .args in
     let xs = a .image .now in
-    let copied = c .before .before .before .before .before .before .copy-in in
+    let copied = copy .copy-in in
     let n = length (a .prefix .now) in
     let rest : 1076 - (52 + n) ≡ prefixLength - n = omega arith in
     let prefix =
     put-first xs 52 (a .prefix .now) n refl
     (splice-part xs 52 (length xs - 52) (a .prefix .now) (copied .last .0) (omega (arith, z .pre)) (omega (arith, z .pre)) (copied .ensures)) in
     put-then xs 52 _ (replicate (prefixLength - n) 0) (prefixLength - n) prefix (length-replicate _ 0)
-    (rw rest at (c .before .before .put-zeros .ensures)) (omega (arith, z .pre)) .0
+    (rw rest at (padded .put-zeros .ensures)) (omega (arith, z .pre)) .0
 
 pub put-prefix-spec : {M : Type 1} → statement M
 put-prefix-spec =
