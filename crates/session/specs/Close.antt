@@ -41,6 +41,7 @@ pub record Finishable (h : Head) (lists : List ℕ) (maxchunks : ℕ) (image : L
   pub image-long : endAt h (sizeOf lists) maxchunks ≤ length image
 
 module _ (st : State) where
+  -- maxchunks of this session: the chunks in use, of the task that has most
   abbrev pub used : ℕ
   used = maxchunksOf (st .session .head .n) (st .lists)
 
