@@ -1,6 +1,8 @@
-//! Holds the second implementation of document 01: opening, filling, closing, loading and reading one container; and a generator for tests.
+//! Holds the second implementation of document 01: opening, filling, closing, loading and reading one container; and for tests a generator
+//! and containers whose fields are set by name.
 
 mod bytes;
+mod container;
 mod generator;
 mod layout;
 mod load;
@@ -12,6 +14,7 @@ mod tally;
 mod tests;
 
 pub use bytes::Order;
+pub use container::{Container, Field};
 pub use generator::Rng;
 pub use layout::{meta1_end, Layout, FORMAT, MARK};
 pub use load::load;

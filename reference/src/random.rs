@@ -1,7 +1,7 @@
 //! Holds the random containers: sound ones of random plans, and damaged ones, all fixed by the seed.
 
-use crate::forge::{Container, Field, Plan};
-use reference::{Order, Rng};
+use crate::forge::Plan;
+use reference::{Container, Field, Order, Rng};
 
 /// The bounds of the rules and of the number formats; fields are set to these or one more or less.
 const BOUNDS: [i64; 12] =

@@ -1,7 +1,7 @@
 //! Holds the fixed collection: names starting `rNN` are refused with NN, all others are accepted.
 
-use crate::forge::{Container, Field, Plan};
-use reference::Order;
+use crate::forge::Plan;
+use reference::{Container, Field, Order};
 
 const I32: [i64; 2] = [i32::MIN as i64, i32::MAX as i64];
 const I64: [i64; 2] = [i64::MIN, i64::MAX];
