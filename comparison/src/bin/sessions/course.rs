@@ -1,6 +1,7 @@
 //! Holds one random session: its calls, the tally beside them, and the container that it leaves.
 
 use crate::counts::Counts;
+use crate::pairs::Pairs;
 use crate::plan::Plan;
 use crate::reload::reload;
 use crate::same::{same, same_list};
@@ -19,8 +20,9 @@ struct Course {
     accepted: Vec<Vec<u8>>,
 }
 
-/// Runs a session from its opening to the calls after its close.
-pub fn run(rng: &mut Rng, counts: &mut Counts) -> Result<(), String> {
+/// Runs a session from its opening to the calls after its close, and beside it calls with two faults.
+pub fn run(rng: &mut Rng, counts: &mut Counts, pairs: &mut Pairs) -> Result<(), String> {
+    pairs.opening(rng)?;
     let (plan, wanted) = drawn::plan(rng);
     let (number, mut twin) = Twin::open(&plan, rng)?;
     counts.add(number);
@@ -36,7 +38,9 @@ pub fn run(rng: &mut Rng, counts: &mut Counts) -> Result<(), String> {
             _ => course.write(rng, counts)?,
         }
     }
-    let mut closed = course.closed_copy(rng, counts)?;
+    pairs.requests(&course.twin, &course.plan, rng)?;
+    let (mut closed, length) = course.closed_copy(rng, counts)?;
+    pairs.container(&closed, length, rng)?;
     refused(&mut closed, counts)
 }
 
@@ -86,8 +90,8 @@ impl Course {
         same("a call after one change, the answer", number, wanted.unwrap_or(number))
     }
 
-    /// A copy that is closed, after its container was loaded and read.
-    fn closed_copy(&self, rng: &mut Rng, counts: &mut Counts) -> Result<Twin, String> {
+    /// A copy that is closed, after its container was loaded and read, and the container's length.
+    fn closed_copy(&self, rng: &mut Rng, counts: &mut Counts) -> Result<(Twin, u64), String> {
         let mut copy = self.twin.clone();
         let (number, length) = copy.close()?;
         counts.add(number);
@@ -96,14 +100,14 @@ impl Course {
         same("close, the length by the paper", length, self.plan.end(blocks))?;
         reload(&copy, length, &self.accepted, rng, counts)
             .map_err(|difference| format!("the closed container, {difference}"))?;
-        Ok(copy)
+        Ok((copy, length))
     }
 
     /// A task, mostly one that there is, and bytes of a length at a bound or of any.
     fn request(&self, rng: &mut Rng) -> (u64, Vec<u8>) {
         let n = self.plan.sizes.len();
         let task = rng.below(n);
-        let (size, left) = (self.plan.sizes[task] as usize, self.left(task));
+        let (size, left) = (self.plan.sizes[task] as usize, self.twin.left(task));
         let length = match rng.below(8) {
             0 => rng.pick(&[0, 1, size, size + 1]),
             1 | 2 => rng.pick(&[left, left + 1]),
@@ -112,15 +116,5 @@ impl Course {
         };
         let none = rng.pick(&[0, n as u64 + 1, u64::MAX]);
         (if rng.one_in(20) { none } else { task as u64 + 1 }, rng.bytes(length))
-    }
-
-    /// What is left of the chunk that a task, counted from 0, has in use.
-    fn left(&self, task: usize) -> usize {
-        let (head, n) = (&self.twin.session().head, self.plan.sizes.len());
-        let used = match head.counts[task] as usize {
-            0 => 0,
-            count => self.twin.table()[(count - 1) * n + task] as usize,
-        };
-        self.plan.sizes[task] as usize - used
     }
 }

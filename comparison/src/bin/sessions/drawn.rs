@@ -1,23 +1,23 @@
 //! Holds the plans drawn at random: sound ones, and ones with a fault or two.
 
 use crate::plan::Plan;
+use crate::turns::{Input, Test};
 use reference::Rng;
 
-/// The kinds of fault with the number that answers each, in the order of an opening's tests.
-const FAULTS: [(Fault, u32); 9] = [
-    (Fault::Order, 2),
-    (Fault::Blocksize, 5),
-    (Fault::Lists, 6),
-    (Fault::Prefix, 21),
-    (Fault::Rank, 8),
-    (Fault::Size, 9),
-    (Fault::Planned, 20),
-    (Fault::Image, 18),
-    (Fault::Table, 18),
+/// What an opening tests, in the paper's order.
+pub const TESTS: [Test<Fault>; 8] = [
+    &[(Fault::Order, 2)],
+    &[(Fault::Blocksize, 5)],
+    &[(Fault::Lists, 6)],
+    &[(Fault::Prefix, 21)],
+    &[(Fault::Rank, 8)],
+    &[(Fault::Size, 9)],
+    &[(Fault::Planned, 20)],
+    &[(Fault::Image, 18), (Fault::Table, 18)],
 ];
 
-#[derive(Clone, Copy)]
-enum Fault {
+#[derive(Clone, Copy, Debug)]
+pub enum Fault {
     Order,
     Blocksize,
     Lists,
@@ -32,16 +32,17 @@ enum Fault {
 /// A plan and the number that answers it: faults of later tests are put in first, so the last one decides.
 pub fn plan(rng: &mut Rng) -> (Plan, u32) {
     let (mut plan, mut answer) = (sound(rng), 0);
-    for &(fault, number) in FAULTS.iter().rev() {
+    for &(fault, number) in TESTS.iter().rev().flat_map(|test| test.iter().rev()) {
         if rng.one_in(30) {
-            spoil(&mut plan, fault, rng);
+            plan.put(fault, rng);
             answer = number;
         }
     }
     (plan, answer)
 }
 
-fn sound(rng: &mut Rng) -> Plan {
+/// A plan without a fault.
+pub fn sound(rng: &mut Rng) -> Plan {
     let n = if rng.one_in(40) { 64 } else { 1 + rng.below(6) };
     let k = match n {
         64 => 1 + rng.below(2),
@@ -83,19 +84,20 @@ fn ranks(rng: &mut Rng, n: usize) -> Vec<u64> {
     ranks
 }
 
-/// Puts a fault into a plan whose faults so far are of later tests.
-fn spoil(plan: &mut Plan, fault: Fault, rng: &mut Rng) {
-    let task = rng.below(plan.sizes.len());
-    match fault {
-        Fault::Order => plan.order = rng.pick(&[2, 3, u32::MAX]),
-        Fault::Blocksize => plan.blocksize = rng.pick(&[0, 256, 768, 8_388_608]),
-        Fault::Lists => spoil_lists(plan, rng),
-        Fault::Prefix => plan.prefix = rng.bytes(1025),
-        Fault::Rank => plan.ranks[task] = spoilt_rank(plan, task, rng),
-        Fault::Size => plan.sizes[task] = rng.pick(&[0, 1_073_741_825, u64::MAX]),
-        Fault::Planned => plan.k = rng.pick(&[0, 33, u32::MAX]),
-        Fault::Image => spoil_image(plan, task, rng),
-        Fault::Table => plan.cells = rng.pick(&[0, plan.needed_cells() - 1]),
+impl Input<Fault> for Plan {
+    fn put(&mut self, fault: Fault, rng: &mut Rng) {
+        let task = rng.below(self.sizes.len());
+        match fault {
+            Fault::Order => self.order = rng.pick(&[2, 3, u32::MAX]),
+            Fault::Blocksize => self.blocksize = rng.pick(&[0, 256, 768, 8_388_608]),
+            Fault::Lists => spoil_lists(self, rng),
+            Fault::Prefix => self.prefix = rng.bytes(1025),
+            Fault::Rank => self.ranks[task] = spoilt_rank(&self.ranks, task, rng),
+            Fault::Size => self.sizes[task] = rng.pick(&[0, 1_073_741_825, u64::MAX]),
+            Fault::Planned => self.k = spoilt_k(self, rng),
+            Fault::Image => spoil_image(self, task, rng),
+            Fault::Table => self.cells = rng.pick(&[0, self.needed_cells() - 1]),
+        }
     }
 }
 
@@ -111,12 +113,21 @@ fn spoil_lists(plan: &mut Plan, rng: &mut Rng) {
 }
 
 /// The rank of another task, or one over the greatest.
-fn spoilt_rank(plan: &Plan, task: usize, rng: &mut Rng) -> u64 {
-    let n = plan.ranks.len();
+pub fn spoilt_rank(ranks: &[u64], task: usize, rng: &mut Rng) -> u64 {
+    let n = ranks.len();
     if n > 1 && rng.one_in(2) {
-        plan.ranks[(task + 1 + rng.below(n - 1)) % n]
+        ranks[(task + 1 + rng.below(n - 1)) % n]
     } else {
         rng.pick(&[1 << 31, u64::MAX])
+    }
+}
+
+/// A K outside its range; more than the greatest if too little is lent, which might do for 0.
+fn spoilt_k(plan: &Plan, rng: &mut Rng) -> u32 {
+    if plan.bytes < plan.needed_bytes() || plan.cells < plan.needed_cells() {
+        rng.pick(&[33, u32::MAX])
+    } else {
+        rng.pick(&[0, 33, u32::MAX])
     }
 }
 

@@ -1,5 +1,6 @@
 //! Holds the changes to a good session, each of one thing, after which a call may be out of order.
 
+use crate::drawn::spoilt_rank;
 use crate::plan::Plan;
 use crate::twin::Twin;
 use lapurmihi::TASKS;
@@ -37,15 +38,24 @@ fn spoil_record(session: &mut Session, rng: &mut Rng) {
     let n = head.n as usize;
     let task = rng.below(n);
     match rng.below(9) {
-        0 => head.order = rng.pick(&[2, u32::MAX]),
-        1 => head.blocksize = rng.pick(&[0, 256, 768, 8_388_608]),
-        2 => head.n = rng.pick(&[0, 65, u32::MAX]),
-        3 => head.counts[task] = rng.pick(&[u64::from(*k) + 1, u64::MAX]),
+        0 => head.blocksize = rng.pick(&[0, 256, 768, 8_388_608]),
+        1 => head.n = rng.pick(&[0, 65, u32::MAX]),
+        2 => head.sizes[task] = rng.pick(&[0, 1_073_741_825, u64::MAX]),
+        3 => head.counts[task] = u64::from(*k) + 1,
         4 => *k = rng.pick(&[0, 33, u32::MAX]),
-        5 => head.closed = rng.pick(&[1, 7, u32::MAX]),
-        6 if n > 1 => head.ranks[task] = head.ranks[(task + 1 + rng.below(n - 1)) % n],
-        6 | 7 => head.ranks[task] = rng.pick(&[1 << 31, u64::MAX]),
-        _ => head.sizes[task] = rng.pick(&[0, 1_073_741_825, u64::MAX]),
+        _ => spoil_head(head, rng),
+    }
+}
+
+/// One field that breaks its rule in both kinds of record, and by which no length goes.
+pub fn spoil_head(head: &mut Head, rng: &mut Rng) {
+    let n = head.n as usize;
+    let task = rng.below(n);
+    match rng.below(5) {
+        0 => head.order = rng.pick(&[2, u32::MAX]),
+        1 => head.closed = rng.pick(&[1, 7, u32::MAX]),
+        2 => head.counts[task] = rng.pick(&[33, u64::MAX]),
+        _ => head.ranks[task] = spoilt_rank(&head.ranks[..n], task, rng),
     }
 }
 
@@ -61,12 +71,19 @@ fn lend_less(twin: &mut Twin, plan: &Plan, rng: &mut Rng) {
 
 /// One of the n·K cells against META2's rule.
 fn spoil_cell(twin: &mut Twin, rng: &mut Rng) {
-    let (at, used, size) = any_cell(twin, rng);
+    let Session { head, k } = twin.session();
+    let (at, value) = broken_cell(head, (head.n * k) as usize, rng);
+    twin.set_cell(at, value);
+}
+
+/// The index of one of the first cells, and a value for it against META2's rule.
+pub fn broken_cell(head: &Head, cells: usize, rng: &mut Rng) -> (usize, i64) {
+    let (at, used, size) = any_cell(head, cells, rng);
     let value = match used {
         true => rng.pick(&[-1, -2, size + 1, i64::MIN, i64::MAX]),
         false => rng.pick(&[0, 1, size, -2, i64::MIN]),
     };
-    twin.set_cell(at, value);
+    (at, value)
 }
 
 /// One field set to another value: near the old one, or where it is not judged.
@@ -99,7 +116,8 @@ pub fn fill_behind(head: &mut Head, rng: &mut Rng) {
 
 /// A used cell set to another value that it may have, or a cell behind the n·K that are judged.
 fn change_cell(twin: &mut Twin, rng: &mut Rng) {
-    let (at, used, size) = any_cell(twin, rng);
+    let Session { head, k } = twin.session();
+    let (at, used, size) = any_cell(head, (head.n * k) as usize, rng);
     if used {
         twin.set_cell(at, rng.below(size as usize + 1) as i64);
     } else {
@@ -107,10 +125,9 @@ fn change_cell(twin: &mut Twin, rng: &mut Rng) {
     }
 }
 
-/// One of the n·K cells: its index, whether it is of a chunk in use, and the task's size.
-fn any_cell(twin: &Twin, rng: &mut Rng) -> (usize, bool, i64) {
-    let Session { head, k } = twin.session();
-    let (task, chunk) = (rng.below(head.n as usize), rng.below(*k as usize));
-    let used = (chunk as u64) < head.counts[task];
-    (chunk * head.n as usize + task, used, head.sizes[task] as i64)
+/// One of the first cells: its index, whether it is of a chunk in use, and the task's size.
+fn any_cell(head: &Head, cells: usize, rng: &mut Rng) -> (usize, bool, i64) {
+    let at = rng.below(cells);
+    let (chunk, task) = (at / head.n as usize, at % head.n as usize);
+    (at, (chunk as u64) < head.counts[task], head.sizes[task] as i64)
 }

@@ -3,21 +3,27 @@
 
 mod counts;
 mod course;
+mod damaged;
 mod drawn;
 mod hostile;
 mod numbers;
+mod pairs;
 mod plan;
+mod questions;
 mod reads;
 mod reload;
+mod requests;
 mod same;
+mod turns;
 mod twin;
 
 use counts::Counts;
+use pairs::Pairs;
 use reference::Rng;
 use std::process::ExitCode;
 
-/// From so many sessions on, every number has to come up.
-const ENOUGH: u32 = 2_000;
+/// From so many sessions on, every number and every pair of faults has to come up.
+const ENOUGH: u32 = 1_000;
 
 fn main() -> ExitCode {
     let args: Vec<String> = std::env::args().skip(1).collect();
@@ -42,16 +48,17 @@ fn main() -> ExitCode {
 
 /// Runs the paper's numbers and so many sessions; gives the line to print.
 fn compare(seed: u64, count: u32) -> Result<String, String> {
-    let (mut rng, mut counts) = (Rng::new(seed), Counts::default());
+    let (mut rng, mut counts, mut pairs) = (Rng::new(seed), Counts::default(), Pairs::new());
     numbers::check(&mut rng).map_err(|difference| format!("seed {seed}, {difference}"))?;
     for session in 1..=count {
-        course::run(&mut rng, &mut counts)
+        course::run(&mut rng, &mut counts, &mut pairs)
             .map_err(|difference| format!("seed {seed}, session {session}, {difference}"))?;
     }
-    let line = format!("{count} sessions of seed {seed}, {}", counts.line());
-    match counts.missing()[..] {
-        [] => Ok(line),
-        _ if count < ENOUGH => Ok(line),
-        ref missing => Err(format!("{line}; never an answer: {missing:?}")),
+    let line = format!("{count} sessions of seed {seed}, {}, {}", counts.line(), pairs.line());
+    let (numbers, faults) = (counts.missing(), pairs.missing());
+    if count < ENOUGH || (numbers.is_empty() && faults.is_empty()) {
+        Ok(line)
+    } else {
+        Err(format!("{line}; never an answer: {numbers:?}; never run: {faults:?}"))
     }
 }

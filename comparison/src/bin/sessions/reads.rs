@@ -20,54 +20,63 @@ pub fn compare(opened: &Opened, rng: &mut Rng, counts: &mut Counts) -> Result<()
     let tasks = u64::from(opened.record.head.n);
     for task in 0..=tasks + 1 {
         for chunk in 0..=u64::from(opened.record.maxchunks) + 1 {
-            opened.chunk(task, chunk, counts)?;
+            counts.add(opened.chunk(task, chunk)?);
         }
         opened.stream(task, rng, counts)?;
     }
     let mut spoiled = opened.clone();
     change(&mut spoiled, rng);
     let task = rng.below(tasks as usize + 2) as u64;
-    spoiled.chunk(task, rng.below(3) as u64, counts)?;
+    counts.add(spoiled.chunk(task, rng.below(3) as u64)?);
     spoiled.stream(task, rng, counts)
 }
 
 impl Opened {
-    fn chunk(&self, task: u64, chunk: u64, counts: &mut Counts) -> Result<(), String> {
+    /// A chunk, and the answer.
+    pub fn chunk(&self, task: u64, chunk: u64) -> Result<u32, String> {
         let part = raw::chunk(&loaded_of(&self.record), &self.image, &self.table, task, chunk);
         let bytes = &self.image[part.start as usize..][..part.length as usize];
         let wanted = reference::chunk(&self.record, &self.image, &self.table, task, chunk);
-        counts.add(part.refusal);
         let call = format!("chunk {chunk} of task {task}");
         same(&format!("{call}, the answer"), part.refusal, wanted.err().unwrap_or(0))?;
         same_list(&format!("{call}, the bytes"), bytes, wanted.unwrap_or(&[]))?;
         if part.refusal != 0 {
             same(&format!("{call}, the place"), (part.start, part.length), (0, 0))?;
         }
-        Ok(())
+        Ok(part.refusal)
+    }
+
+    /// A task's total.
+    pub fn total(&self, task: u64) -> Result<raw::ByteCount, String> {
+        let counted = raw::total(&loaded_of(&self.record), &self.image, &self.table, task);
+        let wanted = reference::total(&self.record, &self.image, &self.table, task);
+        same(&format!("total of task {task}"), answer(counted), wanted)?;
+        Ok(counted)
+    }
+
+    /// A read from a place on, into an output that has these bytes before; gives the answer.
+    pub fn read(&self, task: u64, place: u64, before: Vec<u8>) -> Result<u32, String> {
+        let (mut out, mut other) = (before.clone(), before);
+        let record = loaded_of(&self.record);
+        let counted = raw::read(&record, &self.image, &self.table, task, place, &mut out);
+        let wanted =
+            reference::read(&self.record, &self.image, &self.table, task, place, &mut other);
+        let call = format!("read of task {task} from {place}");
+        same(&call, answer(counted), wanted)?;
+        same_list(&format!("{call}, the output"), &out, &other)?;
+        Ok(counted.refusal)
     }
 
     /// A task's total, and a read from a random place in its stream, or from just behind it.
     fn stream(&self, task: u64, rng: &mut Rng, counts: &mut Counts) -> Result<(), String> {
-        let record = loaded_of(&self.record);
-        let counted = raw::total(&record, &self.image, &self.table, task);
-        let wanted = reference::total(&self.record, &self.image, &self.table, task);
-        let call = format!("task {task}");
+        let counted = self.total(task)?;
         counts.add(counted.refusal);
-        same(&format!("total of {call}"), answer(counted), wanted)?;
-
         let total = counted.bytes as usize;
         let (at, length) = (rng.below(total + 1), rng.below(total + 1));
         let place = rng.pick(&[0, at, total, total + 1, usize::MAX]) as u64;
         let length = rng.pick(&[0, 1, length, total, total + 9]);
-        let before = rng.bytes(length);
-        let (mut out, mut other) = (before.clone(), before);
-        let counted = raw::read(&record, &self.image, &self.table, task, place, &mut out);
-        let wanted =
-            reference::read(&self.record, &self.image, &self.table, task, place, &mut other);
-        counts.add(counted.refusal);
-        let call = format!("read of {call} from {place}");
-        same(&call, answer(counted), wanted)?;
-        same_list(&format!("{call}, the output"), &out, &other)
+        counts.add(self.read(task, place, rng.bytes(length))?);
+        Ok(())
     }
 }
 

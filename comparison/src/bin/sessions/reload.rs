@@ -25,16 +25,10 @@ pub fn reload(
     let cells = wanted.head.n as usize * wanted.maxchunks as usize;
     let before: Vec<i64> = (0..cells + rng.below(5)).map(|_| rng.number() as i64).collect();
 
-    let mut table = before.clone();
-    let answer = raw::load(&image, &mut table);
-    same("answer to the load", answer.refusal, 0)?;
-    same_loaded(&answer.loaded, &loaded_of(&wanted))?;
+    let (loaded, table) =
+        load(&image, &before)?.map_err(|number| format!("it is refused with {number}"))?;
+    same_loaded(&loaded_of(&loaded), &loaded_of(&wanted))?;
     same_list("loaded cells", &table, &[&twin.table()[..cells], &before[cells..]].concat())?;
-
-    let mut table = before;
-    let loaded = reference::load(&image, &mut table)
-        .map_err(|number| format!("the reference refuses the load with {number}"))?;
-    same_loaded(&answer.loaded, &loaded_of(&loaded))?;
     for (task, bytes) in (1..).zip(accepted) {
         let mut out = vec![0; bytes.len() + 1];
         let count = reference::read(&loaded, &image, &table, task, 0, &mut out);
@@ -42,6 +36,19 @@ pub fn reload(
         same_list(&format!("the stream of task {task}"), &out[..bytes.len()], bytes)?;
     }
     reads::compare(&Opened { record: loaded, image, table }, rng, counts)
+}
+
+/// Loads on both sides over the same cells; gives what both answer, the record and the table or a number.
+pub fn load(image: &[u8], before: &[i64]) -> Result<Result<(Loaded, Vec<i64>), u32>, String> {
+    let (mut ours, mut theirs) = (before.to_vec(), before.to_vec());
+    let answer = raw::load(image, &mut ours);
+    let wanted = reference::load(image, &mut theirs);
+    let number = wanted.as_ref().err().copied().unwrap_or(0);
+    let record = wanted.clone().unwrap_or_else(|_| Loaded::refused());
+    same("the answer to the load", answer.refusal, number)?;
+    same_loaded(&answer.loaded, &loaded_of(&record))?;
+    same_list("the table", &ours, &theirs)?;
+    Ok(wanted.map(|loaded| (loaded, ours)))
 }
 
 /// The record that the load of a closed session's container gives.

@@ -82,6 +82,22 @@ impl Twin {
         &self.library.table
     }
 
+    /// Whether a task, counted from 0, has room for a byte.
+    pub fn room(&self, task: usize) -> bool {
+        let reference::Session { head, k } = self.session();
+        head.counts[task] < u64::from(*k) || self.left(task) > 0
+    }
+
+    /// What is left of the chunk that a task, counted from 0, has in use.
+    pub fn left(&self, task: usize) -> usize {
+        let head = &self.session().head;
+        let used = match head.counts[task] as usize {
+            0 => 0,
+            count => self.table()[(count - 1) * head.n as usize + task],
+        };
+        head.sizes[task] as usize - used as usize
+    }
+
     /// Changes the record on both sides.
     pub fn change_record(&mut self, change: impl FnOnce(&mut reference::Session)) {
         change(&mut self.reference.session);
