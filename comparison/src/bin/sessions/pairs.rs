@@ -68,7 +68,7 @@ impl Pairs {
     /// How many pairs there are and how often they came, in words.
     pub fn line(&self) -> String {
         let times: Vec<u64> = self.times().into_iter().map(|(_, times)| times).collect();
-        let least = times.iter().min().map_or(0, |&least| least);
+        let least = times.iter().copied().min().unwrap_or(0);
         format!("{} pairs of faults, each at least {least} times", times.len())
     }
 

@@ -9,6 +9,7 @@ use reference::Rng;
 pub const TESTS: [Test<Fault>; 4] =
     [&[(Fault::Record, 17)], &[(Fault::Image, 18), (Fault::Table, 18)], &[(Fault::Cell, 19)], TASK];
 
+/// Test 14, the last that all reads make.
 pub const TASK: Test<Fault> = &[(Fault::Task, 14)];
 
 /// What is tested behind these of a chunk.

@@ -48,6 +48,9 @@ pub fn load(image: &[u8], before: &[i64]) -> Result<Result<(Loaded, Vec<i64>), u
     same("the answer to the load", answer.refusal, number)?;
     same_loaded(&answer.loaded, &loaded_of(&record))?;
     same_list("the table", &ours, &theirs)?;
+    if number != 0 {
+        same_list("the table of a refused load", &ours, before)?;
+    }
     Ok(wanted.map(|loaded| (loaded, ours)))
 }
 
