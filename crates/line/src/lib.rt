@@ -1,5 +1,5 @@
-// What the two programs share: an input read whole (`input`), and the one line of document 01 about a container, as text in lent memory. The
-// line's end is left to who prints it.
+// What the two programs share: an input read whole (`input`), the one line of document 01 about a container, as text in lent memory, and a text
+// written (`output`). The line's end is left to who prints it.
 ghost use mathlib.Core.Path.{_≡_};
 ghost use mathlib.Core.List.{_∷_};
 ghost use Prim.Native.Nat.{_+_, _*_, _≤_};
@@ -14,6 +14,11 @@ use meta::head::LISTS;
 use reading::record::Loaded;
 
 pub mod input;
+pub mod output;
+
+// A read or a write that a signal interrupts is made again, up to so many times in a row; after that it has failed. No row of signals is that
+// long: the bound is there because every loop is proved to end.
+const AGAIN: u32 = 1_000_000_000;
 
 // The cells of the table that a container is loaded with.
 const CELLS: usize = 2_048;
