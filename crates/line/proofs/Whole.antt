@@ -3,12 +3,13 @@
 use mathlib.Core.Path.{_≡_, sym, ap, ap₂, _∙_}
 use mathlib.Core.Bool.{Bool, cond}
 use mathlib.Core.List.{List, [], _∷_, _++_, append-assoc, append-nil}
-use Prim.Native.Nat.{ℕ, _≤_}
+use Prim.Native.Nat.{ℕ, _≤_, _<_}
 use native.Mathlib.Nat.{zero-add}
+use native.Mathlib.Omega.{arith}
 use lib.Dec.{eqb}
 use lib.IntN.{ℤ, pos}
 use lib.ListN.{length, replicate}
-use borrow.Author.Tests.{eq-eqb, ne-eqb}
+use borrow.Author.Tests.{lt-ltb, le-ltb, eq-eqb, ne-eqb}
 use Rattle.endian.specs.Splice.{splice}
 use Rattle.endian.proofs.Signed.{within-natural}
 use Rattle.io.specs.Counts.{Counts}
@@ -22,8 +23,17 @@ use Rattle.reading.specs.Load.{loadRefusal, loadedIn, checkAnswer, loadAnswer, 
 use Rattle.reading.specs.Reads.{containerOf}
 use Rattle.reading.proofs.LoadTests.{load-holds}
 use Rattle.container.proofs.Refusing.{load-number}
-use Rattle.line.specs.Line.{decimal, space, spaced, cells, totalsOf, loaded, rest, lineOf}
+use Rattle.line.specs.Line.{decimal, space, spaced, cells, totalsOf, longest, long, room, loaded, rest, containerLine, lineOf}
 use Rattle.endian.proofs.Splice.{Put, put-is}
+
+-- every input of more than the most bytes has the line `long`, every other its container's line
+pub long-line : (input : List ℕ) → longest < length input → lineOf input ≡ long
+unfolding lineOf
+long-line input more = rw (lt-ltb longest (length input) more)
+
+pub short-line : (input : List ℕ) → length input ≤ longest → lineOf input ≡ containerLine input
+unfolding lineOf
+short-line input few = rw (le-ltb longest (length input) few)
 
 -- an accepted container has no more than the most tasks
 pub few-tasks : (image : List ℕ) (table : List ℤ) (answer : LoadAnswer) → answer ≡ loadAnswer image table → answer .refusal ≡ 0
@@ -35,9 +45,11 @@ few-tasks image table answer e none =
     rw n (within-natural 1 maxTasks (tasksField (bigIn image) image) (load-holds image (length table) z .first .tasks) .2)
 
 -- the line, put at the start of the memory
-pub line-put : (image xs : List ℕ) {text ys : List ℕ} {end : ℕ} → text ≡ lineOf image → end ≤ length ys → Put xs 0 text ys end
-    → (ys ≡ splice xs 0 (lineOf image)) × ((end ≡ length (lineOf image)) × Counts end ys)
-line-put image xs {ys = ys} {end = end} e fits p = let q = put-is xs 0 e p in (q .0, (rw zero-add at (q .1), counts end ys fits))
+pub line-put : (image xs : List ℕ) {text ys : List ℕ} {end : ℕ} → text ≡ containerLine image → end < room → room ≤ length ys → Put xs 0 text ys end
+    → (ys ≡ splice xs 0 (containerLine image)) × (((end ≡ length (containerLine image)) × Counts end ys) × ((end < room) × (end < length ys)))
+line-put image xs {ys = ys} {end = end} e fits all p =
+    let q = put-is xs 0 e p in
+    (q .0, ((rw zero-add at (q .1), counts end ys (omega arith)), (fits, omega arith)))
 
 module _ (image : List ℕ) where
   -- what the line says after the refusal
@@ -49,20 +61,20 @@ module _ (image : List ℕ) where
 
   module _ (answer : LoadAnswer) (table : List ℤ) (e : answer ≡ loadAnswer image (replicate cells (pos 0)))
       (t : table ≡ loadTable image (replicate cells (pos 0))) where
-    line-is : decimal (answer .refusal) ++ spaced (cond (eqb (answer .refusal) 0) (told answer table) []) ≡ lineOf image
-    unfolding lineOf rest loaded
+    line-is : decimal (answer .refusal) ++ spaced (cond (eqb (answer .refusal) 0) (told answer table) []) ≡ containerLine image
+    unfolding containerLine rest loaded
     line-is =
         ap₂ (λ (a : LoadAnswer) (s : List ℤ). decimal (a .refusal) ++ spaced (cond (eqb (a .refusal) 0) (told a s) [])) e t
 
-    by-test : (b : Bool) → eqb (answer .refusal) 0 ≡ b → decimal (answer .refusal) ++ spaced (cond b (told answer table) []) ≡ lineOf image
+    by-test : (b : Bool) → eqb (answer .refusal) 0 ≡ b → decimal (answer .refusal) ++ spaced (cond b (told answer table) []) ≡ containerLine image
     by-test b f =
         ap (λ (b : Bool). decimal (answer .refusal) ++ spaced (cond b (told answer table) [])) (sym f) ∙ line-is
 
-    pub refused-line : (answer .refusal ≡ 0 → ⊥) → decimal (answer .refusal) ≡ lineOf image
+    pub refused-line : (answer .refusal ≡ 0 → ⊥) → decimal (answer .refusal) ≡ containerLine image
     refused-line some = sym (append-nil (decimal (answer .refusal))) ∙ by-test _ (ne-eqb (answer .refusal) 0 some)
 
     pub accepted-line : answer .refusal ≡ 0
         → ((decimal (answer .refusal) ++ (space ∷ decimal (answer .loaded .head .n))) ++ (space ∷ decimal (answer .loaded .maxchunks)))
         ++ spaced (totalsOf (containerOf (answer .loaded) (answer .lists) image table))
-        ≡ lineOf image
+        ≡ containerLine image
     accepted-line none = simp append-assoc (by-test _ (eq-eqb (answer .refusal) 0 none))

@@ -1,11 +1,11 @@
--- The one line that is printed for a container (document 01): "the refusal number alone, or 0, n, maxchunks and each task's total, in decimal
--- with single spaces", loaded "with a table of 2,048 cells". The line's end is not part of it. Definitions only.
+-- The one line that is printed for an input (document 01): "the refusal number alone, or 0, n, maxchunks and each task's total, in decimal
+-- with single spaces", loaded "with a table of 2,048 cells", or `long`. The line's end is not part of it. Definitions only.
 use mathlib.Core.Bool.{cond}
 use mathlib.Core.List.{List, [], _∷_, _++_}
 use Prim.Native.Nat.{ℕ, zero, suc, _+_, _/_}
 use lib.Dec.{ltb, eqb}
 use lib.IntN.{ℤ, pos}
-use lib.ListN.{replicate}
+use lib.ListN.{length, replicate}
 use Rattle.endian.specs.Below.{listBelow}
 use Rattle.io.specs.Digits.{digits}
 use Rattle.reading.specs.declared.record.LoadAnswer.{LoadAnswer}
@@ -39,12 +39,23 @@ cells = 2_048
 unfoldable pub totalsOf : Container → List ℕ
 totalsOf c = listBelow (c .loaded .head .n) (λ i. totalAnswer c (i + 1) .bytes)
 
-module _ (image : List ℕ) where
+-- "one container of at most 65,536 bytes"; "A longer input prints `long`"
+abbrev pub longest : ℕ
+longest = 65_536
+
+abbrev pub long : List ℕ
+long = 108 ∷ 111 ∷ 110 ∷ 103 ∷ []
+
+-- room for every line and its end
+abbrev pub room : ℕ
+room = 1_408
+
+module _ (input : List ℕ) where
   abbrev blank : List ℤ
   blank = replicate cells (pos 0)
 
   unfoldable pub loaded : LoadAnswer
-  loaded = loadAnswer image blank
+  loaded = loadAnswer input blank
 
   -- the numbers after the first
   unfoldable pub rest : List ℕ
@@ -52,8 +63,11 @@ module _ (image : List ℕ) where
       cond (eqb (loaded .refusal) 0)
       (loaded .loaded .head .n
       ∷ loaded .loaded .maxchunks
-      ∷ totalsOf (containerOf (loaded .loaded) (loaded .lists) image (loadTable image blank)))
+      ∷ totalsOf (containerOf (loaded .loaded) (loaded .lists) input (loadTable input blank)))
       []
 
+  unfoldable pub containerLine : List ℕ
+  containerLine = decimal (loaded .refusal) ++ spaced rest
+
   unfoldable pub lineOf : List ℕ
-  lineOf = decimal (loaded .refusal) ++ spaced rest
+  lineOf = cond (ltb longest (length input)) long containerLine

@@ -1,15 +1,16 @@
-// What the two programs share: an input read whole (`input`), the one line of document 01 about a container, as text in lent memory, and a text
-// written (`output`). The line's end is left to who prints it.
+// What the two programs share: an input read whole (`input`), the one line of document 01 about it, as text in lent memory, and a text written
+// (`output`). The line's end is left to who prints it.
 ghost use mathlib.Core.Path.{_≡_};
 ghost use mathlib.Core.List.{_∷_};
-ghost use Prim.Native.Nat.{_+_, _*_, _≤_};
+ghost use Prim.Native.Nat.{_+_, _*_, _≤_, _<_};
 ghost use lib.ListN.{length};
 ghost use Rattle.endian.specs.Splice.{splice};
 ghost use Rattle.io.specs.Counts.{Counts};
 ghost use Rattle.reading.specs.declared.record.Loaded.{Loaded};
 ghost use Rattle.reading.specs.Reads.{containerOf};
-ghost use Rattle.line.specs.Line.{decimal, space, spaced, totalsOf, lineOf};
+ghost use Rattle.line.specs.Line.{decimal, space, spaced, totalsOf, room, containerLine, lineOf};
 use endian::store;
+use input::LONGEST;
 use meta::head::LISTS;
 use reading::record::Loaded;
 
@@ -23,7 +24,7 @@ const AGAIN: u32 = 1_000_000_000;
 // The cells of the table that a container is loaded with.
 const CELLS: usize = 2_048;
 
-// Room for every line: a number takes at most 20 digits and a space, and there are three and one for each task.
+// Room for every line and its end: a number takes at most 20 digits and a space, and there are three and one for each task.
 pub const LINE: usize = 1_408;
 
 // n in decimal behind the first `at` bytes: how many there are then.
@@ -73,9 +74,10 @@ fn put_totals(
 }
 
 // The line about a container, at the start of out: how many bytes it has.
-pub fn line(image: &[u8], out: &mut [u8; LINE]) -> usize
-    ensures { λ _. ⌜ now (out .exit) ≡ splice (now (out .entry)) 0 (lineOf (now (image .entry))) ⌝ }
-    ensures { λ r. ⌜ (r ≡ length (lineOf (now (image .entry)))) × Counts r (now (out .exit)) ⌝ }
+fn container_line(image: &[u8], out: &mut [u8; LINE]) -> usize
+    ensures { λ _. ⌜ now (out .exit) ≡ splice (now (out .entry)) 0 (containerLine (now (image .entry))) ⌝ }
+    ensures { λ r. ⌜ (r ≡ length (containerLine (now (image .entry)))) × Counts r (now (out .exit)) ⌝ }
+    ensures { λ r. ⌜ (r < room) × (r < length (now (out .exit))) ⌝ }
 {
     let mut table = [0i64; CELLS];
     let answer = container::load(image, &mut table);
@@ -89,4 +91,17 @@ pub fn line(image: &[u8], out: &mut [u8; LINE]) -> usize
     let second = put_spaced(out, first, l.head.n as u64);
     let third = put_spaced(out, second, l.maxchunks as u64);
     put_totals(l, &lists, image, &table, out, third)
+}
+
+// The line about an input, at the start of out: how many bytes it has. There is room for the line's end behind it.
+pub fn line(input: &[u8], out: &mut [u8; LINE]) -> usize
+    ensures { λ _. ⌜ now (out .exit) ≡ splice (now (out .entry)) 0 (lineOf (now (input .entry))) ⌝ }
+    ensures { λ r. ⌜ (r ≡ length (lineOf (now (input .entry)))) × Counts r (now (out .exit)) ⌝ }
+    ensures { λ r. ⌜ (r < room) × (r < length (now (out .exit))) ⌝ }
+{
+    if LONGEST < input.len() {
+        store::copy_in(out, b"long");
+        return 4;
+    }
+    container_line(input, out)
 }
