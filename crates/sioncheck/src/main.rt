@@ -1,21 +1,17 @@
-// The program of document 01: reads a container of at most 65,536 bytes from standard input and prints the one line about it.
+// The program of document 01: reads an input from standard input and prints the one line about it.
 use line::LINE;
 use line::input;
 use line::input::INPUT;
-use line::input::LONGEST;
+use line::output;
 
-fn print(text: &[u8]) {
-    let whole = io::write_all(libc::STDOUT_FILENO, text)
-        && io::write_all(libc::STDOUT_FILENO, b"\n");
-    if !whole {
+// The line and its end go out in one write.
+fn print_line(input: &[u8]) {
+    let mut out = [0u8; LINE];
+    let k = line::line(input, &mut out);
+    out[k] = b'\n';
+    if !output::write_text(libc::STDOUT_FILENO, &out[..k + 1]) {
         os::fail(b"sioncheck: standard output");
     }
-}
-
-fn print_line(image: &[u8]) {
-    let mut out = [0u8; LINE];
-    let k = line::line(image, &mut out);
-    print(&out[..k]);
 }
 
 // Nothing is judged that was not read: a read that fails is said on standard error, and no line is printed.
@@ -27,9 +23,5 @@ fn main() {
         return;
     }
     let count = read.count;
-    if LONGEST < count {
-        print(b"long");
-        return;
-    }
     print_line(&buf[..count]);
 }

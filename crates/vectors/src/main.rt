@@ -5,6 +5,7 @@ use line::LINE;
 use line::input;
 use line::input::INPUT;
 use line::input::LONGEST;
+use line::output;
 use meta::head::LISTS;
 use reading::record::Loaded;
 
@@ -123,7 +124,7 @@ fn add_stream(
 }
 
 fn print(text: &[u8]) {
-    io::write_all(libc::STDOUT_FILENO, text);
+    output::write_text(libc::STDOUT_FILENO, text);
 }
 
 fn print_sum(sum: Sum) {
@@ -165,10 +166,15 @@ fn print_short(image: &[u8], table: &mut [i64], cells: usize) {
     io::print_decimal(libc::STDOUT_FILENO, answer.refusal as u64);
 }
 
-fn print_container(image: &[u8]) {
+// The line about an input.
+fn print_line(input: &[u8]) {
     let mut out = [0u8; LINE];
-    let k = line::line(image, &mut out);
+    let k = line::line(input, &mut out);
     print(&out[..k]);
+}
+
+// What is printed of an accepted container behind its line, and nothing of any other.
+fn print_container(image: &[u8]) {
     let mut table = [0i64; CELLS];
     let answer = container::load(image, &mut table);
     if answer.refusal == 0 {
@@ -196,9 +202,8 @@ fn run(name: &[u8]) -> bool {
     print(name);
     print(b": ");
     let count = read.count;
-    if LONGEST < count {
-        print(b"long");
-    } else {
+    print_line(&buf[..count]);
+    if count <= LONGEST {
         print_container(&buf[..count]);
     }
     print(b"\n");
