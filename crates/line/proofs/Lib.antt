@@ -1,3 +1,4 @@
 pub mod Decimal
+pub mod Numbers
 pub mod Text
 pub mod Whole
