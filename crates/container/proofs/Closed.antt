@@ -1,28 +1,26 @@
 -- The closed image of a session is a container that says what the session holds: its META1 and its META2. Assumes nothing.
-use mathlib.Core.Path.{_≡_, ap, _∙_}
+use mathlib.Core.Path.{_≡_, _∙_}
 use mathlib.Core.List.{List}
 use Prim.Native.Nat.{ℕ, _^_, _≤_, _<_}
 use native.Mathlib.Omega.{arith}
-use lib.IntN.{pos}
 use lib.ListN.{take}
 use lib.Signed.{mag}
-use Rattle.endian.proofs.Signed.{within-facts}
-use Rattle.layout.specs.Limits.{maxBlocks, maxRank}
+use Rattle.layout.specs.Limits.{maxBlocks}
 use Rattle.layout.specs.Areas.{meta1End}
-use Rattle.layout.proofs.Bounds.{sound-size}
 use Rattle.layout.proofs.Chunks.{meta2End-small}
-use Rattle.layout.proofs.Power.{power-of-two, blocksize-facts}
+use Rattle.layout.proofs.Power.{blocksize-facts}
 use Rattle.meta.specs.Meta1.{meta1}
 use Rattle.meta.specs.Meta2.{valueIndex}
 use Rattle.meta.specs.Heads.{entry, cell, countOf, isBig}
-use Rattle.meta.proofs.Rules.{ranks-within, ranks-differ, valueIndex-lt}
+use Rattle.meta.proofs.Rules.{valueIndex-lt}
 use Rattle.emit.proofs.Stored
 use Rattle.session.specs.Records.{State}
 use Rattle.session.specs.Open.{Opening, tasks, openHead}
 use Rattle.session.specs.Close
 use Rattle.session.proofs.Openings.{plan-sound}
-use Rattle.container.specs.Format.{HasMeta1, HasMeta2, valueOf}
+use Rattle.container.specs.Format.{InBounds, HasMeta1, HasMeta2, valueOf}
 use Rattle.container.specs.Demands.{VersionsFit, contentsOf}
+use Rattle.container.proofs.Bounds.{in-bounds}
 use Rattle.container.proofs.ClosedParts.{Closable, closedAs, startIn, valueIn, closing, apart, end-after, closed-most}
 use Rattle.container.proofs.ClosedParts.{closed-reached, in-range, not-used, used-small, closed-long, meta1-there, part-there}
 
@@ -36,9 +34,8 @@ module _ (o : Opening) (st : State) (c : Closable o st) (tail : List ℕ) where
   stored : take (meta1End (tasks o)) (closedAs st tail) ≡ meta1 (openHead o) (entry (o .ranks)) (entry (o .sizes)) (o .prefix) m (startIn o st)
   stored = meta1-there o st c tail
 
-  rank-small : (i : ℕ) → i < tasks o → entry (o .ranks) i ≤ maxRank
-  rank-small i l =
-      within-facts 0 maxRank (entry (o .ranks) i) (ranks-within (tasks o) (λ i. pos (entry (o .ranks) i)) (c .plan .ranked) i l) .1
+  bounds : InBounds (o .plan .blocksize) (tasks o) (entry (o .ranks)) (entry (o .sizes))
+  bounds = in-bounds (c .plan .block) (c .plan .task-rule) (c .plan .ranked) (c .plan .sized)
 
   pub has-meta1 : VersionsFit o → HasMeta1 (closedAs st tail) (contentsOf o st)
   unfolding openHead
@@ -48,6 +45,7 @@ module _ (o : Opening) (st : State) (c : Closable o st) (tail : List ℕ) where
       let block = blocksize-facts (o .plan .blocksize) (c .plan .block) in
       let short = c .plan .prefix-short in
       record {
+        bounds = bounds;
         long = omega (arith, closed-long o st c tail, apart o st c, end-after o st c);
         marked = Stored.mark-back _ _ _ _ _ _ _ short stored;
         order-is = Stored.order-back _ _ _ _ _ _ _ short stored;
@@ -55,19 +53,13 @@ module _ (o : Opening) (st : State) (c : Closable o st) (tail : List ℕ) where
         patch-is = Stored.patch-back _ _ _ _ _ _ _ short stored (fit .1);
         format-is = Stored.format-back _ _ _ _ _ _ _ short stored;
         blocksize-is = Stored.blocksize-back _ _ _ _ _ _ _ short stored (omega arith);
-        blocksize-power = power-of-two (o .plan .blocksize) (block .2);
-        blocksize-range = (block .0, block .1);
         tasks-are = Stored.tasks-back _ _ _ _ _ _ _ short stored (omega (arith, c .plan .few-tasks));
-        tasks-range = (c .plan .some-tasks, c .plan .few-tasks);
         files-are = Stored.files-back _ _ _ _ _ _ _ short stored;
         file-number-is = Stored.file-number-back _ _ _ _ _ _ _ short stored;
         ranks-are = λ i l.
-            Stored.rank-back _ _ _ _ _ _ _ short stored i l (omega (arith, rank-small i l));
-        ranks-range = rank-small;
-        ranks-differ = λ i j l h same. ranks-differ (tasks o) (λ i. pos (entry (o .ranks) i)) (c .plan .ranked) i j l h (ap pos same);
+            Stored.rank-back _ _ _ _ _ _ _ short stored i l (omega (arith, bounds .ranks-range i l));
         sizes-are = λ i l.
-            Stored.size-back _ _ _ _ _ _ _ short stored i l (omega (arith, sound-size sound i l));
-        sizes-range = sound-size sound;
+            Stored.size-back _ _ _ _ _ _ _ short stored i l (omega (arith, bounds .sizes-range i l));
         maxchunks-is = Stored.maxchunks-back _ _ _ _ _ _ _ short stored (omega (arith, few));
         maxchunks-range = few;
         start-is = Stored.start-back _ _ _ _ _ _ _ short stored (omega (arith, small, end-after o st c));

@@ -120,19 +120,39 @@ module _ (o : Opening) (st : State) (c : Closable o st) where
   abbrev pub values : Head → List ℕ
   values h = meta2 (isBig h) (h .n) m (countOf (st .lists)) (cell (st .table))
 
-  second-there : take (meta2Length (tasks o) m) (drop at (closeImage st)) ≡ values (openHead o)
+  pub second-there : take (meta2Length (tasks o) m) (drop at (closeImage st)) ≡ values (openHead o)
   second-there =
       let size : endAt (st .session .head) (sizeOf (st .lists)) m - meta2At (st .session .head) (sizeOf (st .lists)) m ≡ meta2Length (tasks o) m =
       omega (arith, end-is, start-is, end-after) in
       ap₂ (λ (k b : ℕ). take k (drop b (closeImage st))) (sym size) (sym start-is)
       ∙ stores .second ∙ ap values (c .head-is)
 
-  -- bytes that closing leaves: those before META1's last two fields, and those between META1 and META2
+  -- bytes that closing leaves: those before META1's last two fields, those between META1 and META2, and those after META2
   before-kept : (j : ℕ) → j < lastAt (tasks o) → getD (closeImage st) j 0 ≡ getD (st .image) j 0
   before-kept j l = stores .others j (inl (rw tasks-are l))
 
   pub between-kept : (j : ℕ) → meta1End (tasks o) ≤ j → j < at → getD (closeImage st) j 0 ≡ getD (st .image) j 0
   between-kept j l h = stores .others j (inr (inl (rw tasks-are l, rw start-is h)))
+
+  pub after-kept : (j : ℕ) → end ≤ j → getD (closeImage st) j 0 ≡ getD (st .image) j 0
+  after-kept j l = stores .others j (inr (inr (rw end-is l)))
+
+  pub first-there : take (meta1End (tasks o)) (closeImage st) ≡ meta1 (openHead o) (entry (o .ranks)) (entry (o .sizes)) (o .prefix) m at
+  unfolding meta1 meta1End
+  first-there =
+      let n : ℕ = tasks o in
+      let split : meta1End n ≡ lastAt n + 12 = omega arith in
+      let fits : lastAt n ≤ length (closeImage st) = omega (arith, apart, end-after, image-long) in
+      ap (λ (k : ℕ). take k (closeImage st)) split
+      ∙ take-add (lastAt n) 12 (closeImage st)
+      ∙ ap₂ _++_
+      (part-cong (lastAt n) 0 (closeImage st) (st .image) 0 (rw zero-add fits) (rw (zero-add, sym (stores .as-long)) fits)
+      (λ j l. rw zero-add (before-kept j l))
+      ∙ c .front)
+      fields-there
+
+  pub length-said : closeAnswer st .length ≡ end
+  length-said = stores .length-is ∙ end-is
 
   -- ---- the cells, by what the opening was given
 
@@ -164,9 +184,6 @@ module _ (o : Opening) (st : State) (c : Closable o st) where
   -- ---- the image, whatever follows it
 
   module _ (tail : List ℕ) where
-    length-said : closeAnswer st .length ≡ end
-    length-said = stores .length-is ∙ end-is
-
     pub same-part : (b k : ℕ) → b + k ≤ end → take k (drop b (closedAs st tail)) ≡ take k (drop b (closeImage st))
     same-part b k l =
         part-front b k (closeAnswer st .length) (closeImage st) tail (omega (arith, length-said)) (omega (arith, length-said, image-long))
@@ -177,19 +194,7 @@ module _ (o : Opening) (st : State) (c : Closable o st) where
         (omega (arith, length-said, length-take-le (closeAnswer st .length) (closeImage st) (omega (arith, length-said, image-long))))
 
     pub meta1-there : take (meta1End (tasks o)) (closedAs st tail) ≡ meta1 (openHead o) (entry (o .ranks)) (entry (o .sizes)) (o .prefix) m at
-    unfolding meta1 meta1End
-    meta1-there =
-        let n : ℕ = tasks o in
-        let split : meta1End n ≡ lastAt n + 12 = omega arith in
-        let fits : lastAt n ≤ length (closeImage st) = omega (arith, apart, end-after, image-long) in
-        same-part 0 (meta1End n) (omega (arith, apart, end-after))
-        ∙ ap (λ (k : ℕ). take k (closeImage st)) split
-        ∙ take-add (lastAt n) 12 (closeImage st)
-        ∙ ap₂ _++_
-        (part-cong (lastAt n) 0 (closeImage st) (st .image) 0 (rw zero-add fits) (rw (zero-add, sym (stores .as-long)) fits)
-        (λ j l. rw zero-add (before-kept j l))
-        ∙ c .front)
-        fields-there
+    meta1-there = same-part 0 (meta1End (tasks o)) (omega (arith, apart, end-after)) ∙ first-there
 
     pub part-there : partOf (closedAs st tail) (contentsOf o st) ≡ values (openHead o)
     part-there = same-part at (meta2Length (tasks o) m) (omega (arith, end-after)) ∙ second-there

@@ -4,13 +4,15 @@ use lib.ListN.{length}
 use Rattle.room.proofs.Steps.{passes, runs}
 use Rattle.room.proofs.Opened.{opened-follows}
 use Rattle.container.specs.Demands.{Refusals, Format, Demands}
-use Rattle.container.proofs.Refusing.{load-number, load-refuses, part-there, reads-refuse, open-number, needs-refuses, open-refuses, write-refuses, close-refuses}
+use Rattle.container.proofs.Refusing.{load-number, load-refuses, part-there, reads-refuse, open-number, needs-refuses, open-refuses, write-refuses, close-refuses, marked-ends}
 use Rattle.container.proofs.Only.{only}
 use Rattle.container.proofs.Every.{every, says}
 use Rattle.container.proofs.ReadsBack.{reads-back, refuses-back}
-use Rattle.container.proofs.Stores.{opening-stores, close-stores}
+use Rattle.container.proofs.Opens.{opens-exactly}
+use Rattle.container.proofs.Stores.{opening-stores, close-stores, closed-ends}
 use Rattle.container.proofs.WrittenBack.{written-back}
 use Rattle.container.proofs.Rooms.{room}
+use Rattle.container.proofs.Finished.{finished}
 
 refusals : Refusals
 refusals = record {
@@ -20,6 +22,8 @@ refusals = record {
   open-refuses = open-refuses;
   write-refuses = write-refuses;
   close-refuses = close-refuses;
+  marked-ends = marked-ends;
+  closed-ends = closed-ends;
   alive =
       λ o image table e qs. passes (runs (opened-follows o image table (sym (open-number o image table) ∙ e)) qs .follows);
 }
@@ -37,9 +41,11 @@ format = record {
       λ image table c e. reads-back image (c .says) (c .first) (c .second) table (sym (load-number image table) ∙ e);
   refuses-back =
       λ image table c e. refuses-back image (c .says) (c .first) (c .second) table (sym (load-number image table) ∙ e);
+  opens-exactly = opens-exactly;
   opening-stores = opening-stores;
   close-stores = close-stores;
   written-back = written-back;
+  finished = λ o image table qs e. finished o image table qs (sym (open-number o image table) ∙ e);
 }
 
 pub demands : Demands

@@ -1,5 +1,5 @@
 -- Every container is accepted, with a table that is long enough, and what is handed back is what it says. Assumes nothing.
-use mathlib.Core.Path.{_≡_, refl, sym, ap, _∙_}
+use mathlib.Core.Path.{_≡_, refl, ap, _∙_}
 use mathlib.Core.Bool.{Bool, true}
 use mathlib.Core.List.{List}
 use mathlib.Core.Logic.{inr}
@@ -14,16 +14,15 @@ use Rattle.endian.specs.Splice.{splice}
 use Rattle.endian.proofs.Below.{length-list, getD-list}
 use Rattle.endian.proofs.Signed.{within-holds}
 use Rattle.endian.proofs.Splice.{length-splice, getD-splice-in, getD-splice-out}
-use Rattle.layout.specs.Limits.{maxTasks, maxSize, maxRank, maxBlocks, blocksizeRule, tasksRule, ranksRule, sizesRule, maxchunksRule}
+use Rattle.layout.specs.Limits.{maxTasks, maxBlocks, maxchunksRule}
 use Rattle.layout.specs.Areas.{meta1End, meta2Start, meta2End}
-use Rattle.layout.proofs.Power.{power-within, blocksize-holds}
 use Rattle.meta.specs.declared.head.Head.{Head}
 use Rattle.meta.specs.Meta1
 use Rattle.meta.specs.Meta2
 use Rattle.meta.specs.Heads.{cell, listsOf, orderOf, holds, headOf, meta2At, endAt}
 use Rattle.meta.specs.Judge.{bigIn, tasksIn, maxchunksIn, headIn, rankIn, sizeIn, meta2In, countIn, valuesIn}
 use Rattle.meta.proofs.Refusals.{when-accepted}
-use Rattle.meta.proofs.Rules.{ranks-hold, sizes-hold, counts-hold, values-hold, values-agree, valueIndex-lt}
+use Rattle.meta.proofs.Rules.{counts-hold, values-hold, values-agree, valueIndex-lt}
 use Rattle.meta.proofs.Stripes.{length-lists, lists-agree, rank-at, size-at, count-at, rank-made, size-made, count-made, rank-past, size-past, count-past}
 use Rattle.meta.proofs.Heads.{isBig-order, holds-agree, meta2At-agree, endAt-agree}
 use Rattle.meta.proofs.Accepting.{Meta1Holds, marked-holds, order-forced, Meta2Holds}
@@ -34,6 +33,7 @@ use Rattle.container.specs.Format.{Contents, HasMeta1, HasMeta2, partOf,
 use Rattle.reading.specs.Load.{meta2Bytes, loadedIn, listsIn, loadRefusal, checkAnswer, loadAnswer, loadTable}
 use Rattle.container.specs.Demands.{Lists, Recorded, Says}
 use Rattle.reading.proofs.LoadTests.{load-holds, load-passes}
+use Rattle.container.proofs.Bounds.{block-kept, tasks-kept, ranks-kept, sizes-kept}
 
 abbrev pub headSaid : Contents → Head
 headSaid s = headOf (orderOf (s .big)) (s .version) (s .patch) (s .blocksize) (s .n)
@@ -60,38 +60,13 @@ lists-hold n rank size count few {lists} e =
 
 module _ (image : List ℕ) (s : Contents) (one : HasMeta1 image s) (two : HasMeta2 image s) where
   pub few : s .n ≤ maxTasks
-  few = one .tasks-range .1
+  few = one .bounds .tasks-range .1
 
   -- ---- what it says keeps the rules, wherever it is read from
-
-  pub block-kept : blocksizeRule (pos (s .blocksize)) ≡ true
-  block-kept =
-      let (least, most) = one .blocksize-range in
-      let (j, power) = one .blocksize-power in
-      blocksize-holds (s .blocksize) least most (power-within _ j power most)
-
-  pub tasks-kept : tasksRule (pos (s .n)) ≡ true
-  unfolding tasksRule
-  tasks-kept = within-holds 1 maxTasks (s .n) (one .tasks-range .0) few
 
   pub maxchunks-kept : maxchunksRule (pos (s .maxchunks)) ≡ true
   unfolding maxchunksRule
   maxchunks-kept = within-holds 0 maxBlocks (s .maxchunks) zero-le (one .maxchunks-range)
-
-  pub ranks-kept : (f : ℕ → ℤ) → ((i : ℕ) → i < s .n → f i ≡ pos (s .rank i)) → ranksRule (s .n) f ≡ true
-  ranks-kept f are =
-      ranks-hold (s .n) f
-      (λ i l. rw (are i l) (within-holds 0 maxRank (s .rank i) zero-le (one .ranks-range i l)))
-      (λ i j l h same.
-      let e : pos (s .rank i) ≡ pos (s .rank j) = sym (are i l) ∙ same ∙ are j h in
-      one .ranks-differ i j l h (ap natural e))
-
-  pub sizes-kept : (f : ℕ → ℤ) → ((i : ℕ) → i < s .n → f i ≡ pos (s .size i)) → sizesRule (s .n) f ≡ true
-  sizes-kept f are =
-      sizes-hold (s .n) f
-      (λ i l.
-      let (least, most) = one .sizes-range i l in
-      rw (are i l) (within-holds 1 maxSize (s .size i) least most))
 
   pub counts-kept : (f : ℕ → ℤ) → ((i : ℕ) → i < s .n → f i ≡ pos (s .count i)) → Meta2.countsRule (s .n) (s .maxchunks) f ≡ true
   counts-kept f are =
@@ -107,7 +82,7 @@ module _ (image : List ℕ) (s : Contents) (one : HasMeta1 image s) (two : HasMe
   unfolding holds
   values-kept count f counts used others =
       values-hold (s .n) (s .maxchunks) _ count f
-      (λ i k l u.
+      (λ i k l h u.
       let v : k < s .count i = rw (counts i l) at u in
       rw (used i k l v)
       (within-holds 0 _ (s .written k i) zero-le (two .used-fit i k l v)))
@@ -168,13 +143,13 @@ module _ (image : List ℕ) (s : Contents) (one : HasMeta1 image s) (two : HasMe
     marked = marked-holds image (one .marked);
     order-is = rw big-is (one .order-is);
     format-is = rw big-is (one .format-is);
-    blocksize = rw (big-is, one .blocksize-is) block-kept;
-    tasks = rw (big-is, one .tasks-are) tasks-kept;
+    blocksize = rw (big-is, one .blocksize-is) (block-kept (one .bounds));
+    tasks = rw (big-is, one .tasks-are) (tasks-kept (one .bounds));
     files-are = rw big-is (one .files-are);
     file-number-is = rw big-is (one .file-number-is);
     long = rw tasks-is (one .long);
-    ranks = rw (big-is, tasks-is) (ranks-kept _ (one .ranks-are));
-    sizes = rw (big-is, tasks-is) (sizes-kept _ (one .sizes-are));
+    ranks = rw (big-is, tasks-is) (ranks-kept (one .bounds) _ (one .ranks-are));
+    sizes = rw (big-is, tasks-is) (sizes-kept (one .bounds) _ (one .sizes-are));
     maxchunks = rw (big-is, tasks-is, one .maxchunks-is) maxchunks-kept;
     start-is = rw (big-is, tasks-is, start-said) (one .start-is);
     fits = rw end-said (two .fits);

@@ -1,5 +1,8 @@
 pub mod Numbers
+pub mod Bounds
+pub mod Judging
 pub mod Refusing
+pub mod Opens
 pub mod Only
 pub mod Every
 pub mod ReadsBack
@@ -8,4 +11,5 @@ pub mod ClosedParts
 pub mod Closed
 pub mod WrittenBack
 pub mod Rooms
+pub mod Finished
 pub mod Demands

@@ -26,8 +26,10 @@ use Rattle.reading.specs.Load.{meta2Bytes, loadedIn, listsIn, loadRefusal, chec
 use Rattle.reading.specs.Reads.{loadedTests, readTests, used, writtenIn, chunkBytes, chunkRefusal, chunkPart, chunkPlace, partAnswer, streamOf, totalOf, totalAnswer, readRefusal, readAnswer, readOutput}
 use Rattle.room.specs.Tally.{Plan, Ask, Tally, fate, answerTo, told}
 use Rattle.container.specs.Numbers.{Agrees, pTable, otherTable}
+use Rattle.container.specs.Orders.{orderTable}
+use Rattle.container.specs.Bytes.{byteTable}
 
-both-tables : Agrees pTable × Agrees otherTable
+all-tables : Agrees pTable × Agrees otherTable × Agrees orderTable × Agrees byteTable
 unfolding allBelow anyBelow sumBelow greatestBelow joinBelow flatten splice tasksRule powerOfTwo blocksizeRule sizesRule plannedRule
     maxchunksRule allDifferent ranksRule meta1End roundUp dataStart extended capacity extendedBefore globalskip chunkStart
     meta2Start meta2Length meta2End firstFailing lastFields meta1Front meta1 openingBytes valueRule valuesRule countsRule meta2 filled listsOf headSound
@@ -35,18 +37,27 @@ unfolding allBelow anyBelow sumBelow greatestBelow joinBelow flatten splice task
     openAnswer openImage openTable sessionTests begun inLast room spot target requestTests stored maxchunksOf finished
     closedImage writeRefusal afterWrite closeRefusal closeAnswer closeImage markedIn bigIn orderedIn tasksIn maxchunksIn headIn rankIn sizeIn meta2In
     startTests fieldTests fixedTests listTests lastTests restTests meta1Tests countIn valuesIn meta2Tests meta2Bytes loadedIn listsIn loadRefusal checkAnswer loadAnswer loadTable loadedTests readTests used writtenIn chunkBytes
-    chunkRefusal chunkPart chunkPlace partAnswer streamOf totalOf totalAnswer readRefusal readAnswer readOutput fate told pTable otherTable
-both-tables = (
+    chunkRefusal chunkPart chunkPlace partAnswer streamOf totalOf totalAnswer readRefusal readAnswer readOutput fate told pTable otherTable orderTable byteTable
+all-tables = (
   (refl, (refl, (refl, (refl, (refl, (refl, (refl, (refl, (refl, (refl, (refl, (refl, (refl, tt))))))))))))),
+  (refl, (refl, (refl, (refl, (refl, (refl, (refl, (refl, (refl, (refl, (refl, (refl, (refl, (refl, tt)))))))))))))),
   (refl, (refl, (refl, (refl, (refl, (refl, (refl, (refl, (refl, (refl, (refl, (refl, tt)))))))))))),
+  (refl, (refl, (refl, (refl, (refl, (refl, (refl, tt))))))),
 )
 
 -- P1 to P13, and the numbers that are not marked
 pub p-table : Agrees pTable
-p-table = both-tables .0
+p-table = all-tables .0
 
 pub other-table : Agrees otherTable
-other-table = both-tables .1
+other-table = all-tables .1
+
+-- the orders of tests, and what is stored, byte by byte
+pub order-table : Agrees orderTable
+order-table = all-tables .2
+
+pub byte-table : Agrees byteTable
+byte-table = all-tables .3
 
 -- P13, "refused with 15 at any moment": whatever a session holds, once it passes 17, 18 and 19, and whatever the tally keeps
 pub too-long : (st : State) (q : Request) → firstFailing (sessionTests st) ≡ 0 → isTask (st .session .head .n) (q .task) ≡ true

@@ -8,7 +8,7 @@ use lib.IntN.{pos}
 use lib.ListN.{length}
 use Rattle.endian.specs.Signed.{natural}
 use Rattle.endian.proofs.Signed.{InRange, within-natural}
-use Rattle.layout.specs.Limits.{maxTasks, maxSize, maxRank, maxBlocks, blocksizeRule, tasksRule, maxchunksRule}
+use Rattle.layout.specs.Limits.{maxTasks, minBlocksize, maxBlocksize, maxSize, maxRank, maxBlocks, blocksizeRule, tasksRule, maxchunksRule}
 use Rattle.layout.specs.Areas.{meta1End, meta2End}
 use Rattle.layout.proofs.Power.{blocksize-facts, power-of-two}
 use Rattle.meta.specs.Meta1
@@ -18,7 +18,7 @@ use Rattle.meta.specs.Judge.{bigIn, tasksIn, maxchunksIn, headIn, rankIn, sizeI
 use Rattle.meta.proofs.Rules.{blocksize-natural, ranks-within, ranks-differ, sizes-within, counts-within, counts-greatest, values-used, values-unused}
 use Rattle.meta.proofs.Heads.{isBig-order}
 use Rattle.meta.proofs.Accepting.{Meta1Holds, marked-is, Meta2Holds}
-use Rattle.container.specs.Format.{Contents, HasMeta1, HasMeta2, IsContainer, partOf}
+use Rattle.container.specs.Format.{Contents, InBounds, HasMeta1, HasMeta2, IsContainer, partOf}
 use Rattle.reading.specs.Load.{meta2Bytes, loadRefusal}
 use Rattle.reading.proofs.LoadTests.{load-holds}
 
@@ -58,33 +58,42 @@ module _ (image : List ℕ) (first : Meta1Holds image (length image)) where
   size-in i l =
       within-natural 1 maxSize _ (sizes-within (tasksIn image) (Meta1.sizeField (bigIn image) image (tasksIn image)) (first .sizes) i l)
 
+  block-in : InRange minBlocksize maxBlocksize (Meta1.blocksizeField (bigIn image) image)
+  block-in = blocksize-natural (Meta1.blocksizeField (bigIn image) image) (first .blocksize)
+
+  bounds-in : InBounds (contentsIn image .blocksize) (tasksIn image) (rankIn image) (sizeIn image)
+  unfolding tasksIn rankIn sizeIn
+  bounds-in =
+      let rule : blocksizeRule (pos (contentsIn image .blocksize)) ≡ true = rw (block-in .0) at (first .blocksize) in
+      record {
+        blocksize-power = power-of-two _ (blocksize-facts _ rule .2);
+        blocksize-range = (block-in .1, block-in .2);
+        tasks-range = (tasks-in .1, tasks-in .2);
+        ranks-range = λ i l. rank-in i l .2;
+        ranks-differ =
+            λ i j l h same.
+            ranks-differ (tasksIn image) (Meta1.rankField (bigIn image) image) (first .ranks) i j l h
+            (rank-in i l .0 ∙ ap pos same ∙ sym (rank-in j h .0));
+        sizes-range = λ i l. (size-in i l .1, size-in i l .2);
+      }
+
   has-meta1 : HasMeta1 image (contentsIn image)
   unfolding meta1End tasksIn maxchunksIn rankIn sizeIn headIn meta2In meta2At
   has-meta1 =
-      let b = blocksize-natural (Meta1.blocksizeField (bigIn image) image) (first .blocksize) in
-      let rule : blocksizeRule (pos (contentsIn image .blocksize)) ≡ true = rw (b .0) at (first .blocksize) in
       record {
+        bounds = bounds-in;
         long = first .long;
         marked = marked-is image (omega (arith, first .long)) (first .marked);
         order-is = first .order-is;
         version-is = refl;
         patch-is = refl;
         format-is = first .format-is;
-        blocksize-is = b .0;
-        blocksize-power = power-of-two _ (blocksize-facts _ rule .2);
-        blocksize-range = (b .1, b .2);
+        blocksize-is = block-in .0;
         tasks-are = tasks-in .0;
-        tasks-range = (tasks-in .1, tasks-in .2);
         files-are = first .files-are;
         file-number-is = first .file-number-is;
         ranks-are = λ i l. rank-in i l .0;
-        ranks-range = λ i l. rank-in i l .2;
-        ranks-differ =
-            λ i j l h same.
-            ranks-differ (tasksIn image) (Meta1.rankField (bigIn image) image) (first .ranks) i j l h
-            (rank-in i l .0 ∙ ap pos same ∙ sym (rank-in j h .0));
         sizes-are = λ i l. size-in i l .0;
-        sizes-range = λ i l. (size-in i l .1, size-in i l .2);
         maxchunks-is = maxchunks-in .0;
         maxchunks-range = maxchunks-in .2;
         start-is = first .start-is;

@@ -28,7 +28,8 @@ use Rattle.reading.specs.Load.{loadRefusal, loadAnswer, loadTable}
 use Rattle.reading.specs.Reads.{Container, containerOf, ReadAllowed, loadedTests, readTests, used, writtenIn, chunkBytes, chunkRefusal, chunkPart}
 use Rattle.reading.specs.Reads.{streamOf, totalOf, totalAnswer, readRefusal, readAnswer, readOutput}
 use Rattle.container.specs.Demands.{loadedFrom, bytesSaid, streamSaid, totalSaid, Says, ReadsBack, RefusesBack}
-use Rattle.container.proofs.Every.{headSaid, listsSaid, few, block-kept, tasks-kept, maxchunks-kept, ranks-kept, sizes-kept, counts-kept, values-kept}
+use Rattle.container.proofs.Bounds.{block-kept, tasks-kept, ranks-kept, sizes-kept}
+use Rattle.container.proofs.Every.{headSaid, listsSaid, few, maxchunks-kept, counts-kept, values-kept}
 use Rattle.container.proofs.Every.{loaded-is, lists-are, room, says}
 use Rattle.container.proofs.Refusing.{total-number, read-number}
 use Rattle.meta.proofs.Records.{record-passes}
@@ -66,10 +67,10 @@ module _ (image : List ℕ) (s : Contents) (one : HasMeta1 image s) (two : HasMe
   loaded-sound =
       rw (
         order-sound (s .big),
-        block-kept image s one two,
-        tasks-kept image s one two,
-        ranks-kept image s one two _ (λ i l. ap pos (rank-is i l)),
-        sizes-kept image s one two _ (λ i l. ap pos (size-is i l)),
+        block-kept (one .bounds),
+        tasks-kept (one .bounds),
+        ranks-kept (one .bounds) _ (λ i l. ap pos (rank-is i l)),
+        sizes-kept (one .bounds) _ (λ i l. ap pos (size-is i l)),
         maxchunks-kept image s one two,
       )
       (counts-kept image s one two _ (λ i l. ap pos (count-is i l)))

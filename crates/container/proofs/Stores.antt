@@ -28,8 +28,8 @@ use Rattle.session.specs.Close.{maxchunksOf, used, closeRefusal, finished, clos
 use Rattle.session.proofs.Openings.{OpeningHolds, opening-holds, opening-data, opened-session, opened-lists, opened-image, opened-table}
 use Rattle.session.proofs.Sessions.{StateHolds, state-holds}
 use Rattle.session.proofs.Closings.{Closes, closes}
-use Rattle.container.specs.Demands.{Begun, OpeningStores, CloseStores}
-use Rattle.container.proofs.Refusing.{open-number, close-number}
+use Rattle.container.specs.Demands.{Begun, OpeningStores, CloseStores, Ended, afterClose}
+use Rattle.container.proofs.Refusing.{open-number, close-number, marked-ends}
 use Rattle.container.proofs.Every.{lists-hold}
 
 -- ---- opening
@@ -81,6 +81,9 @@ module _ (o : Opening) (image : List ℕ) (table : List ℤ) where
     opened-bytes =
         ap (take (dataStart (o .plan .blocksize) (tasks o))) (opened-image o image table zero)
         ∙ splice-first image stored _ stored-long stored-fits
+
+    pub opened-as-long : length (openImage o image table) ≡ length image
+    opened-as-long = ap length (opened-image o image table zero) ∙ length-splice image 0 stored stored-fits
 
     opened-stores : OpeningStores o image table
     unfolding openingBytes openSession openHead
@@ -215,3 +218,9 @@ module _ (st : State) where
 
   pub close-stores : closeAnswer st .refusal ≡ 0 → CloseStores st (used st)
   close-stores e = closed-stores (sym (close-number st) ∙ e)
+
+  -- and its mark is set then
+  pub closed-ends : closeAnswer st .refusal ≡ 0 → Ended (afterClose st)
+  closed-ends e =
+      let set : closeAnswer st .session .closed ≡ 1 = ap (λ (s : Session). s .closed) (close-stores e .session) in
+      marked-ends (afterClose st) (λ none. omega (arith, set))

@@ -10,28 +10,36 @@ use lib.Dec.{eqb}
 use lib.IntN.{ℤ, pos}
 use lib.ListN.{length, getD, take, drop, replicate}
 use lib.Signed.{mag}
-use Rattle.endian.specs.Below.{sumBelow, joinBelow}
+use Rattle.endian.specs.Below.{sumBelow, greatestBelow, joinBelow}
 use Rattle.endian.specs.Signed.{natural}
 use Rattle.endian.specs.Splice.{splice}
 use Rattle.layout.specs.Limits.{maxTasks}
-use Rattle.layout.specs.Areas.{meta1End, dataStart, capacity, chunkStart}
+use Rattle.layout.specs.Areas.{meta1End, dataStart, capacity, chunkStart, meta2Start, meta2Length, meta2End}
 use Rattle.meta.specs.Refusals.{firstFailing}
 use Rattle.meta.specs.Meta1.{lastAt, lastFields, meta1}
 use Rattle.meta.specs.Meta2.{valueIndex, unused, meta2}
 use Rattle.meta.specs.Heads.{entry, cell, sizeOf, countOf, noLists, isBig, orderOf, meta2At, endAt}
 use Rattle.session.specs.declared.record.Session.{Session}
-use Rattle.session.specs.Records.{State, sessionTests, noSession, marked}
-use Rattle.session.specs.Open.{Opening, tasks, needsAnswer, openAnswer, openImage, openTable, opened}
+use Rattle.session.specs.Records.{State, stateOf, sessionTests, noSession, marked}
+use Rattle.session.specs.Open.{Opening, tasks, needsAnswer, openHead, openAnswer, openImage, openTable, opened}
 use Rattle.session.specs.Write.{Request, writeRefusal, afterWrite, writes, refusals, accepted}
 use Rattle.session.specs.Close.{used, closeAnswer, closeImage}
-use Rattle.room.specs.Tally.{planOf, blank, askOf, asks, answers, told, toldAll, held, own, ownAnswers, Lands}
+use Rattle.room.specs.Tally.{planOf, blank, asks, answers, toldAll, held, own, ownAnswers, Lands}
 use Rattle.reading.specs.declared.record.Loaded.{Loaded}
 use Rattle.reading.specs.Records.{noLoaded}
 use Rattle.container.specs.Format.{Contents, IsContainer}
+use Rattle.container.specs.Accepted.{bytesFor, LongEnough, GoodPlan, GoodOpening, GoodSession, GoodLoaded, GoodCells}
 use Rattle.reading.specs.Load.{loadAnswer, loadTable}
 use Rattle.reading.specs.Reads.{Container, containerOf, chunkRefusal, chunkPart, partAnswer, totalAnswer, readAnswer, readOutput}
 
 -- ---- demand 1: refusals
+
+abbrev pub Not : Type 0 → Type 0
+Not A = A → ⊥
+
+-- the one holds exactly where the other does
+abbrev pub Exactly : Type 0 → Type 0 → Type 0
+Exactly A B = (A → B) × (B → A)
 
 -- a number is one of a list's
 abbrev pub OneOf : List ℕ → ℕ → Type 0
@@ -64,6 +72,27 @@ writeNumbers = 17 ∷ 18 ∷ 19 ∷ 14 ∷ 15 ∷ 16 ∷ []
 abbrev pub closeNumbers : List ℕ
 closeNumbers = 17 ∷ 18 ∷ 19 ∷ []
 
+-- an answer of write, close or the reads, whatever record, image and table came in: 17 exactly where the record breaks a fact, else 18 exactly
+-- where it is lent too little, else 19 exactly where a cell breaks its rule
+pub record Judged (sound long agreed : Type 0) (r : ℕ) : Type 0 where
+  pub number-17 : Exactly (r ≡ 17) (Not sound)
+  pub number-18 : Exactly (r ≡ 18) (sound × Not long)
+  pub number-19 : Exactly (r ≡ 19) (sound × long × Not agreed)
+
+abbrev pub SessionJudged : State → ℕ → Type 0
+SessionJudged st =
+    let h = st .session .head in
+    Judged (GoodSession (st .session) (st .lists))
+    (LongEnough (h .blocksize) (h .n) (sizeOf (st .lists)) (st .session .planned) (st .image) (st .table))
+    (GoodCells h (st .lists) (st .session .planned) (st .table))
+
+abbrev pub LoadedJudged : Container → ℕ → Type 0
+LoadedJudged c =
+    let h = c .loaded .head in
+    Judged (GoodLoaded (c .loaded) (c .lists))
+    (LongEnough (h .blocksize) (h .n) (sizeOf (c .lists)) (c .loaded .maxchunks) (c .image) (c .table))
+    (GoodCells h (c .lists) (c .loaded .maxchunks) (c .table))
+
 -- loading: refused, the table is as it came and the record is zeros marked closed
 pub record LoadRefuses (image : List ℕ) (table : List ℤ) : Type 0 where
   pub numbered : OneOf (0 ∷ loadNumbers) (loadAnswer image table .refusal)
@@ -73,13 +102,16 @@ pub record LoadRefuses (image : List ℕ) (table : List ℤ) : Type 0 where
 -- the reads: refused, the part is empty, its place, the count and the total are 0, and the output is as it came
 pub record ReadsRefuse (c : Container) (task : ℕ) : Type 0 where
   pub chunk-numbered : (chunk : ℕ) → OneOf (0 ∷ chunkNumbers) (chunkRefusal c task chunk)
+  pub chunk-judged : (chunk : ℕ) → LoadedJudged c (chunkRefusal c task chunk)
   pub chunk-empty : (chunk : ℕ) → 0 < chunkRefusal c task chunk → chunkPart c task chunk ≡ []
   pub part-number : (chunk : ℕ) → partAnswer c task chunk .refusal ≡ chunkRefusal c task chunk
   pub part-nothing : (chunk : ℕ) → 0 < chunkRefusal c task chunk → (partAnswer c task chunk .start ≡ 0) × (partAnswer c task chunk .length ≡ 0)
   pub read-numbered : (p : ℕ) → (out : List ℕ) → OneOf (0 ∷ readNumbers) (readAnswer c task p out .refusal)
+  pub read-judged : (p : ℕ) → (out : List ℕ) → LoadedJudged c (readAnswer c task p out .refusal)
   pub read-nothing : (p : ℕ) → (out : List ℕ) → 0 < readAnswer c task p out .refusal
       → (readAnswer c task p out .bytes ≡ 0) × (readOutput c task p out ≡ out)
   pub total-numbered : OneOf (0 ∷ totalNumbers) (totalAnswer c task .refusal)
+  pub total-judged : LoadedJudged c (totalAnswer c task .refusal)
   pub total-nothing : 0 < totalAnswer c task .refusal → totalAnswer c task .bytes ≡ 0
 
 -- opening: refused, image and table are as they came and the record is zeros marked closed
@@ -102,14 +134,26 @@ pub record NeedsRefuses (o : Opening) (image : List ℕ) (table : List ℤ) : Ty
 -- a write: refused or empty, record, image and table are as they came
 pub record WriteRefuses (st : State) (q : Request) : Type 0 where
   pub numbered : OneOf (0 ∷ writeNumbers) (writeRefusal st q)
+  pub judged : SessionJudged st (writeRefusal st q)
   pub nothing-moved : 0 < writeRefusal st q → afterWrite st q ≡ st
   pub empty-moves-nothing : length (q .bytes) ≡ 0 → afterWrite st q ≡ st
 
 -- closing: refused, the record's numbers and the image are as they came and the length is 0
 pub record CloseRefuses (st : State) : Type 0 where
   pub numbered : OneOf (0 ∷ closeNumbers) (closeAnswer st .refusal)
+  pub judged : SessionJudged st (closeAnswer st .refusal)
   pub nothing-moved : 0 < closeAnswer st .refusal
       → (closeImage st ≡ st .image) × (closeAnswer st .session ≡ st .session) × (closeAnswer st .length ≡ 0)
+
+-- the end of a session: every write and every close answers 17, and it stays as it is
+pub record Ended (st : State) : Type 0 where
+  pub no-write : (qs : List Request) → refusals st qs ≡ replicate (length qs) 17
+  pub stays : (qs : List Request) → writes st qs ≡ st
+  pub no-close : closeAnswer st .refusal ≡ 17
+
+-- a session as a close leaves it
+abbrev pub afterClose : State → State
+afterClose st = stateOf (closeAnswer st .session) (st .lists) (closeImage st) (st .table)
 
 -- and what keeps a session alive: whatever was written since an accepted opening, and however it was answered, 17, 18 and 19 pass
 abbrev pub Alive : Opening → List ℕ → List ℤ → Type 0
@@ -122,6 +166,8 @@ pub record Refusals : Type 0 where
   pub open-refuses : (o : Opening) → (image : List ℕ) → (table : List ℤ) → OpenRefuses o image table
   pub write-refuses : (st : State) → (q : Request) → WriteRefuses st q
   pub close-refuses : (st : State) → CloseRefuses st
+  pub marked-ends : (st : State) → Not (st .session .closed ≡ 0) → Ended st
+  pub closed-ends : (st : State) → closeAnswer st .refusal ≡ 0 → Ended (afterClose st)
   pub alive : (o : Opening) → (image : List ℕ) → (table : List ℤ) → openAnswer o image table .refusal ≡ 0 → Alive o image table
 
 -- ---- demand 2 (a): the format
@@ -202,7 +248,15 @@ pub record RefusesBack (c : Contents) (loaded : Container) : Type 0 where
   pub no-chunk : (i chunk : ℕ) → i < c .n → (chunk ≡ 0) ⊎ (c .count i < chunk) → chunkRefusal loaded (i + 1) chunk ≡ 22
   pub past-total : (i p : ℕ) → (out : List ℕ) → i < c .n → totalSaid c i < p → readAnswer loaded (i + 1) p out .refusal ≡ 23
 
--- ---- demand 2 (b): what any accepted opening and any accepted close store, whatever came in
+-- ---- demand 2 (b): which openings are accepted, and what any accepted opening and any accepted close store, whatever came in
+
+-- opening answers 0 exactly where its arguments keep the rules, and so does `needs`, which then says how much is to be lent
+pub record OpensExactly (o : Opening) (image : List ℕ) (table : List ℤ) : Type 0 where
+  pub opens : Exactly (openAnswer o image table .refusal ≡ 0) (GoodOpening o image table)
+  pub plans : Exactly (needsAnswer o .refusal ≡ 0) (GoodPlan o)
+  pub needed : GoodPlan o
+      → (needsAnswer o .image ≡ bytesFor (o .plan .blocksize) (tasks o) (entry (o .sizes)) (o .plan .planned))
+      × (needsAnswer o .cells ≡ tasks o * o .plan .planned)
 
 -- the record of an opening says what the opening was given; no chunk is begun, and the mark is unset
 pub record Begun (o : Opening) (s : Session) (lists : List ℕ) : Type 0 where
@@ -295,6 +349,30 @@ pub record WrittenBack (o : Opening) (image : List ℕ) (table : List ℤ) (qs :
       (take (closeAnswer (writes (opened o image table) qs) .length) (closeImage (writes (opened o image table) qs)) ++ tail)
       cells
 
+-- ---- demand 2 (b) and (c): the finished container, byte by byte
+
+-- by the tally, the chunks that task i + 1 has begun, and the greatest of these numbers, which is maxchunks
+abbrev pub begunBy : Opening → List Request → ℕ → ℕ
+begunBy o qs i = toldAll (planOf o) blank (asks qs) (i + 1) .u
+
+abbrev pub mostBegun : Opening → List Request → ℕ
+mostBegun o qs = greatestBelow (tasks o) (begunBy o qs)
+
+-- a session that was opened over an image and written to, closed: META1 with its last two fields filled, zeros up to D, META2 of the tally's
+-- counts and of the cells; every other byte is an accepted one where the tally puts it, or as the image was lent
+pub record Finished (o : Opening) (image : List ℕ) (qs : List Request) (st : State) (m : ℕ) : Type 0 where
+  pub first : take (meta1End (tasks o)) (closeImage st)
+      ≡ meta1 (openHead o) (entry (o .ranks)) (entry (o .sizes)) (o .prefix) m (meta2Start (o .plan .blocksize) (tasks o) (entry (o .sizes)) m)
+  pub zeros : (at : ℕ) → meta1End (tasks o) ≤ at → at < dataStart (o .plan .blocksize) (tasks o) → getD (closeImage st) at 0 ≡ 0
+  pub second : take (meta2Length (tasks o) m) (drop (meta2Start (o .plan .blocksize) (tasks o) (entry (o .sizes)) m) (closeImage st))
+      ≡ meta2 (isBig (openHead o)) (tasks o) m (begunBy o qs) (cell (st .table))
+  pub lands : {task at value : ℕ} → Lands (planOf o) task at value blank qs → getD (closeImage st) at 0 ≡ value
+  pub others : (at : ℕ) → dataStart (o .plan .blocksize) (tasks o) ≤ at
+      → (at < meta2Start (o .plan .blocksize) (tasks o) (entry (o .sizes)) m) ⊎ (meta2End (o .plan .blocksize) (tasks o) (entry (o .sizes)) m ≤ at)
+      → ((task value : ℕ) → Lands (planOf o) task at value blank qs → ⊥) → getD (closeImage st) at 0 ≡ getD image at 0
+  pub as-long : length (closeImage st) ≡ length image
+  pub length-is : closeAnswer st .length ≡ meta2End (o .plan .blocksize) (tasks o) (entry (o .sizes)) m
+
 pub record Format : Type 0 where
   pub accepts-exactly : (image : List ℕ) → (table : List ℤ) → AcceptsExactly image table
   pub part-there : (c : Container) → (task chunk : ℕ) → PartThere c task chunk
@@ -302,22 +380,25 @@ pub record Format : Type 0 where
       → ReadsBack image (c .says) (loadedFrom image table)
   pub refuses-back : (image : List ℕ) → (table : List ℤ) → (c : IsContainer image) → loadAnswer image table .refusal ≡ 0
       → RefusesBack (c .says) (loadedFrom image table)
+  pub opens-exactly : (o : Opening) → (image : List ℕ) → (table : List ℤ) → OpensExactly o image table
   pub opening-stores : (o : Opening) → (image : List ℕ) → (table : List ℤ) → openAnswer o image table .refusal ≡ 0
       → OpeningStores o image table
   pub close-stores : (st : State) → closeAnswer st .refusal ≡ 0 → CloseStores st (used st)
   pub written-back : (o : Opening) → (image : List ℕ) → (table : List ℤ) → (qs : List Request) → openAnswer o image table .refusal ≡ 0
       → VersionsFit o → WrittenBack o image table qs
+  pub finished : (o : Opening) → (image : List ℕ) → (table : List ℤ) → (qs : List Request) → openAnswer o image table .refusal ≡ 0
+      → Finished o image qs (writes (opened o image table) qs) (mostBegun o qs)
 
 -- ---- demand 3: a task can count on its room, over every list of writes from an accepted opening
 
--- the answers: those of the tally, and for a task those of the tally for its own requests alone; 16 only if twice the bytes exceed K·c, and
--- never more than K·c held. A task number is any number
+-- the answers: those of the tally, and for a task those of the tally for its own requests alone; wherever in the list a request is answered 16,
+-- twice the bytes exceed K·c, those accepted from its task before it and its own; and never more than K·c held. A task number is any number
 pub record Answers (o : Opening) (start : State) (qs : List Request) : Type 0 where
   pub as-tally : refusals start qs ≡ answers (planOf o) blank (asks qs)
   pub alone : (task : ℕ) → ownAnswers task (asks qs) (refusals start qs) ≡ answers (planOf o) blank (own task (asks qs))
-  pub least-share : (q : Request) → writeRefusal (writes start qs) q ≡ 16
+  pub least-share : (before after : List Request) → (q : Request) → qs ≡ before ++ (q ∷ after) → getD (refusals start qs) (length before) 0 ≡ 16
       → o .plan .planned * capacity (o .plan .blocksize) (entry (o .sizes) (q .task - 1))
-      < 2 * (held (q .task) (asks qs) (refusals start qs) + length (q .bytes))
+      < 2 * (held (q .task) (asks before) (refusals start qs) + length (q .bytes))
   pub most : (task : ℕ) → held task (asks qs) (refusals start qs) ≤ o .plan .planned * capacity (o .plan .blocksize) (entry (o .sizes) (task - 1))
 
 -- the bytes: each accepted one where the tally puts it, every other as the opening left it, and no block with bytes of two tasks
@@ -330,20 +411,20 @@ pub record Placed (o : Opening) (start : State) (qs : List Request) : Type 0 whe
       → at / o .plan .blocksize ≡ at′ / o .plan .blocksize → task ≡ task′
 
 -- the record and the table: a task's count is the tally's u and its last cell the tally's w, later cells are -1; the numbers, all of the lists
--- but the tasks' counts, and the cells past n·K are as the opening left them; and the next write moves no cell but the one that is then its
--- task's last
+-- but the tasks' counts, and the cells past n·K are as the opening left them; and no request of the list moves a cell but the one that is then
+-- its task's last
 pub record Kept (o : Opening) (start : State) (qs : List Request) : Type 0 where
   pub session : writes start qs .session ≡ start .session
-  pub counts : (i : ℕ) → i < tasks o → countOf (writes start qs .lists) i ≡ toldAll (planOf o) blank (asks qs) (i + 1) .u
+  pub counts : (i : ℕ) → i < tasks o → countOf (writes start qs .lists) i ≡ begunBy o qs i
   pub other-entries : (j : ℕ) → (j < 2 * maxTasks) ⊎ (2 * maxTasks + tasks o ≤ j) → entry (writes start qs .lists) j ≡ entry (start .lists) j
   pub lists-as-long : length (writes start qs .lists) ≡ length (start .lists)
-  pub last-cells : (i k : ℕ) → i < tasks o → k + 1 ≡ toldAll (planOf o) blank (asks qs) (i + 1) .u
+  pub last-cells : (i k : ℕ) → i < tasks o → k + 1 ≡ begunBy o qs i
       → cell (writes start qs .table) (valueIndex (tasks o) k i) ≡ pos (toldAll (planOf o) blank (asks qs) (i + 1) .w)
-  pub later-cells : (i k : ℕ) → i < tasks o → toldAll (planOf o) blank (asks qs) (i + 1) .u ≤ k → k < o .plan .planned
+  pub later-cells : (i k : ℕ) → i < tasks o → begunBy o qs i ≤ k → k < o .plan .planned
       → cell (writes start qs .table) (valueIndex (tasks o) k i) ≡ unused
-  pub next-cells : (q : Request) → (i k : ℕ) → i < tasks o
-      → (q .task ≡ i + 1 → k + 1 ≡ told (planOf o) (toldAll (planOf o) blank (asks qs)) (askOf q) (i + 1) .u → ⊥)
-      → cell (afterWrite (writes start qs) q .table) (valueIndex (tasks o) k i) ≡ cell (writes start qs .table) (valueIndex (tasks o) k i)
+  pub next-cells : (before after : List Request) → (q : Request) → qs ≡ before ++ (q ∷ after) → (i k : ℕ) → i < tasks o
+      → (q .task ≡ i + 1 → k + 1 ≡ begunBy o (before ++ (q ∷ [])) i → ⊥)
+      → cell (writes start (before ++ (q ∷ [])) .table) (valueIndex (tasks o) k i) ≡ cell (writes start before .table) (valueIndex (tasks o) k i)
   pub other-cells : (j : ℕ) → tasks o * o .plan .planned ≤ j → cell (writes start qs .table) j ≡ cell (start .table) j
   pub as-many : length (writes start qs .table) ≡ length (start .table)
 
@@ -354,10 +435,14 @@ Alike o image table =
     → own task (asks qs) ≡ own task (asks qs′)
     → ownAnswers task (asks qs) (refusals (opened o image table) qs) ≡ ownAnswers task (asks qs′) (refusals (opened o image′ table′) qs′)
 
+-- "one claim over the whole list"
+pub record Claim (o : Opening) (start : State) (qs : List Request) : Type 0 where
+  pub answered : Answers o start qs
+  pub placed : Placed o start qs
+  pub kept : Kept o start qs
+
 pub record Room (o : Opening) (image : List ℕ) (table : List ℤ) : Type 0 where
-  pub answered : (qs : List Request) → Answers o (opened o image table) qs
-  pub placed : (qs : List Request) → Placed o (opened o image table) qs
-  pub kept : (qs : List Request) → Kept o (opened o image table) qs
+  pub claimed : (qs : List Request) → Claim o (opened o image table) qs
   pub alike : Alike o image table
 
 -- ---- the three demands

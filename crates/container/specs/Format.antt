@@ -25,8 +25,18 @@ pub record Contents : Type 0 where
   -- the chunk first, as META2 is grouped, then the task
   pub written : ℕ → ℕ → ℕ
 
+-- "Numbers that bound the work": of a blocksize, and of n tasks with their ranks and sizes
+pub record InBounds (blocksize n : ℕ) (rank size : ℕ → ℕ) : Type 0 where
+  pub blocksize-power : (j : ℕ) × (blocksize ≡ 2 ^ j)
+  pub blocksize-range : (minBlocksize ≤ blocksize) × (blocksize ≤ maxBlocksize)
+  pub tasks-range : (1 ≤ n) × (n ≤ maxTasks)
+  pub ranks-range : (i : ℕ) → i < n → rank i ≤ maxRank
+  pub ranks-differ : (i j : ℕ) → i < n → j < n → rank i ≡ rank j → i ≡ j
+  pub sizes-range : (i : ℕ) → i < n → (1 ≤ size i) × (size i ≤ maxSize)
+
 -- META1 of an image holds these contents, and they keep its rules
 pub record HasMeta1 (image : List ℕ) (c : Contents) : Type 0 where
+  pub bounds : InBounds (c .blocksize) (c .n) (c .rank) (c .size)
   pub long : meta1End (c .n) ≤ length image
   pub marked : take (length Meta1.mark) image ≡ Meta1.mark
   pub order-is : Meta1.orderField (c .big) image ≡ pos Meta1.orderNumber
@@ -34,17 +44,11 @@ pub record HasMeta1 (image : List ℕ) (c : Contents) : Type 0 where
   pub patch-is : Meta1.patchField (c .big) image ≡ c .patch
   pub format-is : Meta1.formatField (c .big) image ≡ pos Meta1.formatVersion
   pub blocksize-is : Meta1.blocksizeField (c .big) image ≡ pos (c .blocksize)
-  pub blocksize-power : (j : ℕ) × (c .blocksize ≡ 2 ^ j)
-  pub blocksize-range : (minBlocksize ≤ c .blocksize) × (c .blocksize ≤ maxBlocksize)
   pub tasks-are : Meta1.tasksField (c .big) image ≡ pos (c .n)
-  pub tasks-range : (1 ≤ c .n) × (c .n ≤ maxTasks)
   pub files-are : Meta1.filesField (c .big) image ≡ pos Meta1.fileCount
   pub file-number-is : Meta1.fileNumberField (c .big) image ≡ pos Meta1.fileNumber
   pub ranks-are : (i : ℕ) → i < c .n → Meta1.rankField (c .big) image i ≡ pos (c .rank i)
-  pub ranks-range : (i : ℕ) → i < c .n → c .rank i ≤ maxRank
-  pub ranks-differ : (i j : ℕ) → i < c .n → j < c .n → c .rank i ≡ c .rank j → i ≡ j
   pub sizes-are : (i : ℕ) → i < c .n → Meta1.sizeField (c .big) image (c .n) i ≡ pos (c .size i)
-  pub sizes-range : (i : ℕ) → i < c .n → (1 ≤ c .size i) × (c .size i ≤ maxSize)
   pub maxchunks-is : Meta1.maxchunksField (c .big) image (c .n) ≡ pos (c .maxchunks)
   pub maxchunks-range : c .maxchunks ≤ maxBlocks
   pub start-is : Meta1.startField (c .big) image (c .n) ≡ pos (meta2Start (c .blocksize) (c .n) (c .size) (c .maxchunks))

@@ -10,15 +10,16 @@ use Rattle.endian.specs.Below.{listBelow}
 use Rattle.endian.specs.Signed.{signedAt}
 use Rattle.layout.specs.Areas.{meta1End, dataStart, extended, globalskip, chunkStart, imageNeeded}
 use Rattle.endian.specs.Splice.{splice}
+use Rattle.meta.specs.declared.head.Head.{Head}
 use Rattle.meta.specs.Meta1.{formatField, maxchunksField, startField, meta1}
-use Rattle.meta.specs.Heads.{entry, listsOf, orderOf, headOf}
+use Rattle.meta.specs.Heads.{entry, orderOf, headOf}
 use Rattle.session.specs.Records.{State}
-use Rattle.session.specs.Open.{Opening, needsAnswer, openRefusal, opened}
+use Rattle.session.specs.Open.{Opening, needsAnswer, openRefusal, openAnswer, opened}
 use Rattle.session.specs.Write.{Request, target, writes, refusals}
 use Rattle.session.specs.Close.{closeAnswer, closeImage}
-use Rattle.reading.specs.Records.{loadedOf}
-use Rattle.reading.specs.Load.{loadRefusal, loadAnswer, loadTable}
-use Rattle.reading.specs.Reads.{Container, containerOf, chunkRefusal, chunkPart, partAnswer, totalAnswer, readRefusal, readAnswer, readOutput}
+use Rattle.reading.specs.Load.{loadRefusal, loadAnswer}
+use Rattle.reading.specs.Reads.{Container, chunkRefusal, chunkPart, partAnswer, totalAnswer, readRefusal, readAnswer, readOutput}
+use Rattle.container.specs.Demands.{loadedFrom}
 use Rattle.room.specs.Tally.{Plan, planOf, asks, Book, offset, blank, fateIn, toldAll, answers, held}
 
 -- a row: what the rules compute, and what the paper says
@@ -176,20 +177,34 @@ withRanks ranks =
     let o = plan 0 512 (500 ∷ 500 ∷ []) 1 in
     openRefusal (record { plan = o .plan; ranks = ranks; sizes = o .sizes; prefix = o .prefix }) 65_536 2
 
--- a container's image, and what loading it hands back
+-- ---- what a refusal hands back: the numbers of the record, then its lists
+
+abbrev pub recordOf : Head → ℕ → ℕ → List ℕ → List ℤ
+recordOf h chunks closed lists =
+    (pos (h .order) ∷ h .version ∷ h .patch ∷ pos (h .blocksize) ∷ pos (h .n) ∷ pos chunks ∷ pos closed ∷ []) ++ map pos lists
+
+abbrev pub refusedLoad : List ℤ
+refusedLoad = let a = loadAnswer [] [] in recordOf (a .loaded .head) (a .loaded .maxchunks) (a .loaded .closed) (a .lists)
+
+abbrev pub refusedOpening : List ℤ
+refusedOpening =
+    let a = openAnswer (plan 2 512 two 3) [] [] in recordOf (a .session .head) (a .session .planned) (a .session .closed) (a .lists)
+
+abbrev pub zerosMarked : List ℤ
+zerosMarked = map pos ((0 ∷ 0 ∷ 0 ∷ 0 ∷ 0 ∷ 0 ∷ 1 ∷ []) ++ replicate 192 0)
+
+-- ---- a container's image, and what loading it hands back
+
 abbrev pub twoImage : ℕ → ℕ → List ℕ
 twoImage order bytes = take bytes (closeImage (twoDone order))
 
-abbrev pub loadedFrom : List ℕ → Container
-loadedFrom image =
-    let table = replicate 4 (pos 0) in
-    containerOf (loadAnswer image table .loaded) (loadAnswer image table .lists) image (loadTable image table)
+abbrev pub loadedHere : List ℕ → Container
+loadedHere image = loadedFrom image (replicate 4 (pos 0))
 
--- the program's line: the refusal number, n, maxchunks and each task's total; then library version, patch level and
--- fileformat_version
-abbrev pub line : List ℕ → List ℤ
-line image =
-    let c = loadedFrom image in
+-- what it says: the refusal number, n, maxchunks and each task's total; then library version, patch level and fileformat_version
+abbrev pub said : List ℕ → List ℤ
+said image =
+    let c = loadedHere image in
     map pos (
     loadRefusal image 4
     ∷ c .loaded .head .n
@@ -222,17 +237,6 @@ cutTo bytes = loadRefusal (take bytes smallest) 0
 abbrev pub changed : ℕ → ℕ → ℕ
 changed at byte = loadRefusal (splice smallest at (byte ∷ [])) 0
 
--- ---- the numbers of the reads, of a record with one task and one chunk that holds 10 bytes, in an image of so many bytes
-abbrev pub chunkOf : ℕ → ℕ → List ℤ → ℕ → ℕ
-chunkOf closed bytes table task =
-    chunkRefusal
-    (containerOf
-    (loadedOf (headOf 0 (pos 1) (pos 7) 512 1) 1 closed)
-    (listsOf 1 (λ i. 0) (λ i. 10) (λ i. 1))
-    (replicate bytes 0)
-    table)
-    task 1
-
 unfoldable pub otherTable : List Row
 otherTable =
     row (map withBlocksize (512 ∷ 4_194_304 ∷ 256 ∷ 768 ∷ 8_388_608 ∷ [])) (0 ∷ 0 ∷ 5 ∷ 5 ∷ 5 ∷ [])
@@ -243,14 +247,17 @@ otherTable =
     (withRanks (0 ∷ 2_147_483_647 ∷ []) ∷ withRanks (0 ∷ 2_147_483_648 ∷ []) ∷ withRanks (3 ∷ 3 ∷ []) ∷ [])
     (0 ∷ 8 ∷ 8 ∷ [])
     ∷ row (needed (plan 0 512 two 3) ++ needed (plan 2 512 two 3)) (0 ∷ 6208 ∷ 6 ∷ 2 ∷ 0 ∷ 0 ∷ [])
-    -- "For P12 the line is `0 2 2 501 0`", from its 4,656 bytes; with one byte fewer META2 does not fit
+    -- "A refused opening or load hands back a record of zeros marked closed"
+    ∷ record { computed = refusedLoad; stated = zerosMarked }
+    ∷ record { computed = refusedOpening; stated = zerosMarked }
+    -- P12's 4,656 bytes; with one byte fewer META2 does not fit
     ∷ record {
-      computed = line (twoImage 0 4656);
+      computed = said (twoImage 0 4656);
       stated = pos 0 ∷ pos 2 ∷ pos 2 ∷ pos 501 ∷ pos 0 ∷ pos 1 ∷ pos 7 ∷ pos 3 ∷ [];
     }
     ∷ row (loadRefusal (twoImage 1 4655) 4 ∷ loadRefusal (twoImage 0 4656) 3 ∷ []) (12 ∷ 18 ∷ [])
     -- the other numbers of loading, by cuts and by single bytes
-    ∷ row (map cutTo (1544 ∷ 3 ∷ 7 ∷ 1075 ∷ 1103 ∷ 1543 ∷ [])) (0 ∷ 1 ∷ 2 ∷ 3 ∷ 3 ∷ 12 ∷ [])
+    ∷ row (map cutTo (1544 ∷ 3 ∷ 4 ∷ 7 ∷ 8 ∷ 1075 ∷ 1076 ∷ 1103 ∷ 1104 ∷ 1543 ∷ [])) (0 ∷ 1 ∷ 2 ∷ 2 ∷ 3 ∷ 3 ∷ 3 ∷ 3 ∷ 12 ∷ 12 ∷ [])
     ∷ row
     (changed 3 111
     ∷ changed 4 0
@@ -267,16 +274,7 @@ otherTable =
     ∷ changed 1536 1
     ∷ [])
     (1 ∷ 2 ∷ 4 ∷ 5 ∷ 6 ∷ 7 ∷ 7 ∷ 8 ∷ 9 ∷ 10 ∷ 11 ∷ 12 ∷ 13 ∷ [])
-    -- 17, 18, 19 and 14, alone and before the ones that follow
-    ∷ row
-    (chunkOf 0 2064 (pos 10 ∷ []) 1
-    ∷ chunkOf 1 2063 (pos 11 ∷ []) 2
-    ∷ chunkOf 0 2063 (pos 11 ∷ []) 2
-    ∷ chunkOf 0 2064 [] 2
-    ∷ chunkOf 0 2064 (pos 11 ∷ []) 2
-    ∷ chunkOf 0 2064 (negsuc 0 ∷ []) 1
-    ∷ chunkOf 0 2064 (pos 0 ∷ []) 2
-    ∷ [])
-    (0 ∷ 17 ∷ 18 ∷ 18 ∷ 19 ∷ 19 ∷ 14 ∷ [])
-    ∷ row (reads (loadedFrom (twoImage 1 4656))) (3 ∷ 3072 ∷ 1 ∷ 22 ∷ 2 ∷ 2 ∷ 3 ∷ 9 ∷ 9 ∷ 23 ∷ 14 ∷ [])
+    -- versions, flags, prefix and padding are not tested: their first and last bytes
+    ∷ row (map (λ (at : ℕ). changed at 255) (8 ∷ 15 ∷ 36 ∷ 43 ∷ 44 ∷ 51 ∷ 52 ∷ 1075 ∷ 1104 ∷ 1535 ∷ [])) (replicate 10 0)
+    ∷ row (reads (loadedHere (twoImage 1 4656))) (3 ∷ 3072 ∷ 1 ∷ 22 ∷ 2 ∷ 2 ∷ 3 ∷ 9 ∷ 9 ∷ 23 ∷ 14 ∷ [])
     ∷ []

@@ -49,7 +49,7 @@ pub length-last : (big : Bool) (maxchunks start : ℕ) → length (Meta1.lastFie
 unfolding Meta1.lastFields
 length-last big maxchunks start = simp (length-append, length-digits)
 
-length-meta1 : (h : Head) (rank size : ℕ → ℕ) (prefix : List ℕ) (maxchunks start : ℕ) → length prefix ≤ Meta1.prefixLength
+pub length-meta1 : (h : Head) (rank size : ℕ → ℕ) (prefix : List ℕ) (maxchunks start : ℕ) → length prefix ≤ Meta1.prefixLength
     → length (Meta1.meta1 h rank size prefix maxchunks start) ≡ meta1End (h .n)
 unfolding Meta1.meta1 meta1End
 length-meta1 h rank size prefix maxchunks start short =

@@ -116,11 +116,11 @@ module _ (n m : ℕ) (holds count : ℕ → ℕ) (value : ℕ → ℤ) where
   unfolding valueRule
   values-unused e i k l h u = sameZ-eq (value (valueIndex n k i)) unused (rw (le-ltb k (count i) u) at (value-at e i k l h))
 
-  pub values-hold : ((i k : ℕ) → i < n → k < count i → within 0 (holds i) (value (valueIndex n k i)) ≡ true)
+  pub values-hold : ((i k : ℕ) → i < n → k < m → k < count i → within 0 (holds i) (value (valueIndex n k i)) ≡ true)
       → ((i k : ℕ) → i < n → count i ≤ k → k < m → value (valueIndex n k i) ≡ unused) → valuesRule n m holds count value ≡ true
   unfolding valuesRule valueRule
   values-hold used other = all-of _ m (λ k h. all-of _ n (λ i l. go i k l h (ltb k (count i)) refl))
     where
       go : (i k : ℕ) → i < n → k < m → (b : Bool) → ltb k (count i) ≡ b → valueRule b (holds i) (value (valueIndex n k i)) ≡ true
-      go i k l h true e = used i k l (ltb-true _ _ e)
+      go i k l h true e = used i k l h (ltb-true _ _ e)
       go i k l h false e = rw (other i k l (ltb-false _ _ e) h) refl

@@ -4,5 +4,6 @@ pub mod Places
 pub mod Follows
 pub mod Effects
 pub mod Steps
+pub mod Middle
 pub mod Opened
 pub mod Streams

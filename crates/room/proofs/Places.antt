@@ -12,7 +12,7 @@ use borrow.Author.Tests.{ltb-true, ltb-false, leb-true, leb-false, eqb-true, eqb
 use Rattle.endian.specs.Splice.{splice}
 use Rattle.endian.proofs.Splice.{length-splice, getD-splice-in, getD-splice-out}
 use Rattle.session.specs.Write.{Request}
-use Rattle.room.specs.Tally.{Plan, Ask, Tally, Book, blank, fate, fateIn, answerTo, afterwards, told, askOf, offsetIn}
+use Rattle.room.specs.Tally.{Plan, Ask, Tally, Book, blank, fate, fateIn, answerTo, afterwards, told, toldAll, askOf, asks, offsetIn}
 use Rattle.room.specs.Tally.{Fate, noTask, empty, tooLong, stays, moves, noRoom, Lands, here, later}
 use Rattle.room.proofs.Fates.{View, is-noTask, is-empty, is-tooLong, is-stays, is-moves, is-noRoom, view, told-same, told-other}
 use Rattle.room.proofs.Share.{Good, good-blank, good-told}
@@ -83,6 +83,10 @@ taken-told p b a {t} {k} {i} h = go (eqb (a .task) t) refl
     go : (v : Bool) → eqb (a .task) t ≡ v → Taken (told p b a t) k i
     go true e = rw (told-same p b a t (eqb-true _ _ e)) (taken-after p a (b t) h)
     go false e = rw (told-other p b a t (eqb-false _ _ e)) h
+
+pub taken-all : (p : Plan) (qs : List Request) (b : Book) {t k i : ℕ} → Taken (b t) k i → Taken (toldAll p b (asks qs) t) k i
+taken-all p [] b h = h
+taken-all p (q ∷ qs) b h = taken-all p qs (told p b (askOf q)) (taken-told p b (askOf q) h)
 
 -- ---- an accepted write that has bytes
 
@@ -277,11 +281,12 @@ module _ (B M : ℕ) (p : Plan) (lo : Layout B M p) where
 
   -- ---- no block with bytes of two tasks
 
-  lands-in : {t x v : ℕ} {b : Book} {qs : List Request} → Sane p b → Lands p t x v b qs
-      → (k : ℕ) × (i : ℕ) × (x ≡ p .start t k + i) × InChunk p t k i
-  lands-in s (here {book = b} {q = q} e r j l y v) =
+  -- an accepted byte is one of a chunk that its task has begun in the end
+  pub lands-in : {t x v : ℕ} {b : Book} {qs : List Request} → Sane p b → Lands p t x v b qs
+      → (k : ℕ) × (i : ℕ) × (x ≡ p .start t k + i) × InChunk p t k i × Taken (toldAll p b (asks qs) t) k i
+  lands-in s (here {book = b} {q = q} {qs = qs} e r j l y v) =
       let z = spot-of p b q s r (omega arith) in
-      rw (← e) (z .k, z .i + j, y ∙ spot-at z j, spot-in z j l)
+      rw (← e) (z .k, z .i + j, y ∙ spot-at z j, spot-in z j l, taken-all p qs (told p b (askOf q)) (spot-taken z j l))
   lands-in s (later {book = b} {q = q} h) = lands-in (sane-told p b (askOf q) s) h
 
   pub own-blocks : {s t x y v w : ℕ} {b : Book} {qs : List Request} → Sane p b → Lands p s x v b qs → Lands p t y w b qs

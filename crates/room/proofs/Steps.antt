@@ -44,7 +44,7 @@ module _ {b : Book} {st : State} (f : Own b st) where
         table-long = f .table-long;
         agree =
             values-hold _ _ _ _ _
-            (λ i k l u. used-fits f i k l (omega (arith, f .counts-are i l)))
+            (λ i k l m u. used-fits f i k l (omega (arith, f .counts-are i l)))
             (λ i k l u m. f .cells-are i k l m .none (omega (arith, f .counts-are i l)));
       })
 
