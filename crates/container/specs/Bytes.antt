@@ -32,7 +32,8 @@ abBytes order = take 1537 (overNines (abPlan order) .image)
 abbrev pub zeros : ℕ → List ℕ
 zeros n = replicate n 0
 
--- after the prefix, ranks and sizes the last two fields are 0
+-- the mark, the number 1, version, patch level, fileformat_version, blocksize, n, nfiles; filenumber; both flags; the prefix; two ranks; two sizes;
+-- maxchunks and start_of_varheader, which are 0; the zeros up to D; a byte of the image
 abbrev pub abLittle : List ℕ
 abLittle =
     (115 ∷ 105 ∷ 111 ∷ 110 ∷ [])
@@ -54,6 +55,7 @@ abLittle =
     ++ zeros 416
     ++ (9 ∷ [])
 
+-- the same in big order
 abbrev pub abBig : List ℕ
 abBig =
     (115 ∷ 105 ∷ 111 ∷ 110 ∷ [])

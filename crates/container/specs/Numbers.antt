@@ -237,6 +237,14 @@ cutTo bytes = loadRefusal (take bytes smallest) 0
 abbrev pub changed : ℕ → ℕ → ℕ
 changed at byte = loadRefusal (splice smallest at (byte ∷ [])) 0
 
+-- ---- the ends of what 4 bytes in little order and 8 bytes in big order hold
+abbrev pub signedEnds : List ℕ
+signedEnds =
+    (255 ∷ 255 ∷ 255 ∷ 127 ∷ [])
+    ++ (0 ∷ 0 ∷ 0 ∷ 128 ∷ [])
+    ++ (127 ∷ replicate 7 255)
+    ++ (128 ∷ replicate 7 0)
+
 unfoldable pub otherTable : List Row
 otherTable =
     row (map withBlocksize (512 ∷ 4_194_304 ∷ 256 ∷ 768 ∷ 8_388_608 ∷ [])) (0 ∷ 0 ∷ 5 ∷ 5 ∷ 5 ∷ [])
@@ -266,6 +274,7 @@ otherTable =
     ∷ changed 24 0
     ∷ changed 28 2
     ∷ changed 32 1
+    ∷ changed 35 1
     ∷ changed 1083 128
     ∷ changed 1084 0
     ∷ changed 1097 0
@@ -273,7 +282,14 @@ otherTable =
     ∷ changed 1097 7
     ∷ changed 1536 1
     ∷ [])
-    (1 ∷ 2 ∷ 4 ∷ 5 ∷ 6 ∷ 7 ∷ 7 ∷ 8 ∷ 9 ∷ 10 ∷ 11 ∷ 12 ∷ 13 ∷ [])
+    (1 ∷ 2 ∷ 4 ∷ 5 ∷ 6 ∷ 7 ∷ 7 ∷ 7 ∷ 8 ∷ 9 ∷ 10 ∷ 11 ∷ 12 ∷ 13 ∷ [])
+    -- "A chunk not used by a task has the value -1", and not 0: P12's second task, chunk 1
+    ∷ row (loadRefusal (splice (twoImage 0 4656) 4632 (replicate 8 0)) 4 ∷ []) (13 ∷ [])
+    -- "signed two's complement": the greatest and the least number of 4 and of 8 bytes
+    ∷ record {
+      computed = map (signedAt false 4 signedEnds) (0 ∷ 4 ∷ []) ++ map (signedAt true 8 signedEnds) (8 ∷ 16 ∷ []);
+      stated = pos 2_147_483_647 ∷ negsuc 2_147_483_647 ∷ pos 9_223_372_036_854_775_807 ∷ negsuc 9_223_372_036_854_775_807 ∷ [];
+    }
     -- versions, flags, prefix and padding are not tested: their first and last bytes
     ∷ row (map (λ (at : ℕ). changed at 255) (8 ∷ 15 ∷ 36 ∷ 43 ∷ 44 ∷ 51 ∷ 52 ∷ 1075 ∷ 1104 ∷ 1535 ∷ [])) (replicate 10 0)
     ∷ row (reads (loadedHere (twoImage 1 4656))) (3 ∷ 3072 ∷ 1 ∷ 22 ∷ 2 ∷ 2 ∷ 3 ∷ 9 ∷ 9 ∷ 23 ∷ 14 ∷ [])

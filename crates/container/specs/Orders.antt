@@ -1,6 +1,6 @@
--- Document 01, "Order when loading" and the orders of the other entries, row by row: for each entry an input that fails every test from one on, and
--- each row has one fault fewer than the one before it. Then 17 for each rule that a record can break. Definitions only; that the rules
--- compute these numbers is proved in proofs/Numbers.antt.
+-- Document 01, "Order when loading" and the orders of the other entries, row by row: each input fails one test and the next one too, and has one
+-- fault fewer than the input before it. Only the paper's order has every test before its neighbour. Then 17 for each rule that a record can
+-- break. Definitions only; that the rules compute these numbers is proved in proofs/Numbers.antt.
 use mathlib.Core.Bool.{false}
 use mathlib.Core.List.{List, [], _∷_, _++_, map}
 use Prim.Native.Nat.{ℕ, _+_}
@@ -180,7 +180,7 @@ orderTable =
     (loadOf 0 1075 0
     ∷ loadOf 1 1075 0
     ∷ loadOf 2 1075 0
-    ∷ loadOf 2 1103 0
+    ∷ loadOf 2 1076 0
     ∷ loadOf 3 1103 0
     ∷ loadOf 4 1103 0
     ∷ loadOf 5 1103 0

@@ -8,14 +8,14 @@ use native.Mathlib.Nat.{eq-zero-or-pos}
 use native.Mathlib.Omega.{arith}
 use borrow.Author.Tests.{lt-ltb, le-ltb, ltb-false, eq-eqb, ne-eqb, not-false}
 use lib.Dec.{ltb, eqb}
-use lib.IntN.{ℤ, pos}
+use lib.IntN.{pos}
 use lib.ListN.{length}
 use Rattle.endian.specs.Number.{numberAt}
 use Rattle.endian.specs.Below.{allBelow}
 use Rattle.endian.specs.Signed.{signed, within, natural}
 use Rattle.endian.proofs.Below.{and-left}
 use Rattle.endian.proofs.Signed.{natural-signed}
-use Rattle.layout.specs.Limits.{maxTasks, maxRank, maxSize, blocksizeRule, tasksRule, maxchunksRule, allDifferent, ranksRule, sizesRule, Sound}
+use Rattle.layout.specs.Limits.{maxTasks, maxRank, maxSize, blocksizeRule, tasksRule, maxchunksRule, allDifferent, ranksRule, sizesRule}
 use Rattle.layout.specs.Areas.{meta1End, meta2End}
 use Rattle.layout.proofs.Power.{blocksize-facts}
 use Rattle.layout.proofs.Chunks.{meta2End-small}
@@ -24,9 +24,9 @@ use Rattle.meta.specs.declared.first.Start.{Start}
 use Rattle.meta.specs.declared.first.Fixed.{Fixed}
 use Rattle.meta.specs.declared.first.Last.{Last}
 use Rattle.meta.specs.Refusals.{firstFailing}
-use Rattle.meta.specs.Meta1.{fixedLength, lastAt, tasksField, versionField, patchField, blocksizeField, rankField, sizeField}
+use Rattle.meta.specs.Meta1.{fixedLength, lastAt, versionField, patchField, rankField, sizeField}
 use Rattle.meta.specs.Heads.{entry, allLists, sizesOf, rankOf, sizeOf, filled, listsOf, isBig, orderOf, meta2At, endAt, headOf, noHead}
-use Rattle.meta.specs.Judge.{is, bigIn, tasksIn, maxchunksIn, headIn, rankIn, sizeIn, meta2In, startTests, fieldTests, fixedTests, listTests, lastTests, restTests, meta1Tests}
+use Rattle.meta.specs.Judge.{is, bigIn, tasksIn, maxchunksIn, headIn, rankIn, sizeIn, meta2In, startTests, fieldTests, fixedTests, listTests, lastTests, restTests}
 use Rattle.meta.specs.Judge.{startGives, fixedGives, restGives, listsRead, FieldsRead, HeadRead, ListsPassed}
 use Rattle.meta.proofs.Refusals.{Numbered, first-passes, first-fails, both-pass, none-fails, when-accepted, number-is}
 use Rattle.meta.proofs.Stripes.{length-lists, length-sizes, rank-made, size-made}

@@ -11,7 +11,7 @@ use Rattle.meta.specs.Refusals.{firstFailing}
 use Rattle.meta.specs.Heads.{isTask}
 use Rattle.session.specs.declared.writing.Decision.{Decision}
 use Rattle.session.specs.Records.{State, sessionTests}
-use Rattle.session.specs.Write.{Request, begun, inLast, room, spot, requestTests, nextChunk, writeRefusal, decision, stored, afterWrite}
+use Rattle.session.specs.Write.{Request, begun, inLast, room, spot, nextChunk, writeRefusal, decision, stored, afterWrite}
 use Rattle.session.proofs.Answers.{answer-no-task, answer-empty, answer-long, answer-chunk}
 use Rattle.session.proofs.Writable.{spot-first}
 

@@ -1,6 +1,5 @@
 -- `meta1` meets its contract: four stores, each where the last ended. Assumes nothing.
-use mathlib.Core.Path.{sym, ap, ap₂, _∙_}
-use mathlib.Core.List.{List}
+use mathlib.Core.Path.{sym, ap, _∙_}
 use Prim.Native.Nat.{ℕ, _-_}
 use native.Mathlib.Omega.{arith}
 use lib.IntN.{pos}
@@ -9,7 +8,6 @@ use borrow.Author.Needs.{needs}
 use Rattle.endian.specs.Below.{joinBelow}
 use Rattle.endian.specs.Signed.{signedDigits}
 use Rattle.endian.specs.Splice.{splice}
-use Rattle.meta.specs.Meta1.{lastAt}
 use Rattle.meta.specs.Heads.{isBig, rankOf, sizeOf}
 use Rattle.meta.proofs.Stripes.{length-ranks, length-sizes}
 use Rattle.emit.proofs.Parts.{opening-fits, opening-stored}
