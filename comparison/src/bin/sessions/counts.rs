@@ -1,5 +1,7 @@
 //! Holds how often each number was the answer.
 
+use crate::call::Answer;
+
 /// What opening, writing, closing and the reads can answer beside 0.
 const NUMBERS: [usize; 15] = [2, 5, 6, 8, 9, 14, 15, 16, 17, 18, 19, 20, 21, 22, 23];
 
@@ -9,9 +11,10 @@ pub struct Counts {
 }
 
 impl Counts {
-    /// Counts the answer to one call.
-    pub fn add(&mut self, number: u32) {
-        self.answers[number as usize] += 1;
+    /// Counts the answer to one call, and hands it on.
+    pub fn add(&mut self, answer: Answer) -> Answer {
+        self.answers[answer.refusal as usize] += 1;
+        answer
     }
 
     /// The numbers that were never the answer.

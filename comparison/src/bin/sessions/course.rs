@@ -1,11 +1,12 @@
 //! Holds one random session: its calls, the tally beside them, and the container that it leaves.
 
+use crate::call::{Answer, Call};
 use crate::counts::Counts;
+use crate::memory::{Lent, Memory};
 use crate::pairs::Pairs;
 use crate::plan::Plan;
-use crate::reload::reload;
+use crate::reload::{most_chunks, reload};
 use crate::same::{same, same_list};
-use crate::twin::Twin;
 use crate::{drawn, hostile};
 use reference::{Rng, Tally};
 
@@ -15,7 +16,7 @@ const CALLS: usize = 60;
 /// A session in order so far, with the tally of its writes and the bytes accepted from each task.
 struct Course {
     plan: Plan,
-    twin: Twin,
+    memory: Memory,
     tally: Tally,
     accepted: Vec<Vec<u8>>,
 }
@@ -24,13 +25,12 @@ struct Course {
 pub fn run(rng: &mut Rng, counts: &mut Counts, pairs: &mut Pairs) -> Result<(), String> {
     pairs.opening(rng)?;
     let (plan, wanted) = drawn::plan(rng);
-    let (number, mut twin) = Twin::open(&plan, rng)?;
-    counts.add(number);
-    same("opening, the answer by the plan's faults", number, wanted)?;
-    if number != 0 {
-        return refused(&mut twin, counts);
+    let (answer, mut memory) = plan.open(rng)?;
+    same("opening, the answer by the plan's faults", counts.add(answer).refusal, wanted)?;
+    if wanted != 0 {
+        return refused(&mut memory, counts);
     }
-    let mut course = Course::new(plan, twin);
+    let mut course = Course::new(plan, memory);
     for _ in 0..rng.below(CALLS + 1) {
         match rng.below(20) {
             0 | 1 => course.hostile(rng, counts)?,
@@ -38,40 +38,41 @@ pub fn run(rng: &mut Rng, counts: &mut Counts, pairs: &mut Pairs) -> Result<(), 
             _ => course.write(rng, counts)?,
         }
     }
-    pairs.requests(&course.twin, &course.plan, rng)?;
+    pairs.session(&course.memory, &course.plan, rng)?;
     let (mut closed, length) = course.closed_copy(rng, counts)?;
     pairs.container(&closed, length, rng)?;
     refused(&mut closed, counts)
 }
 
 /// A write and a close of a closed session.
-fn refused(twin: &mut Twin, counts: &mut Counts) -> Result<(), String> {
-    for number in [twin.write(1, b"x")?, twin.close()?.0] {
-        counts.add(number);
+fn refused(memory: &mut Memory, counts: &mut Counts) -> Result<(), String> {
+    memory.buffer = Lent::all(b"x".to_vec());
+    for call in [Call::Write { task: 1 }, Call::Close] {
+        let number = counts.add(memory.call(&call)?).refusal;
         same("a call of a closed session, the answer", number, 17)?;
     }
     Ok(())
 }
 
 impl Course {
-    fn new(plan: Plan, twin: Twin) -> Course {
+    fn new(plan: Plan, memory: Memory) -> Course {
         let tasks = plan.sizes.iter().enumerate();
         let tally = Tally::new(plan.k, tasks.map(|(task, &size)| (size, plan.starts(task))));
         let accepted = vec![vec![]; plan.sizes.len()];
-        Course { plan, twin, tally, accepted }
+        Course { plan, memory, tally, accepted }
     }
 
     /// A write that the tally counts too.
     fn write(&mut self, rng: &mut Rng, counts: &mut Counts) -> Result<(), String> {
         let (task, bytes) = self.request(rng);
-        let number = self.twin.write(task, &bytes)?;
-        counts.add(number);
+        self.memory.buffer = Lent::all(bytes.clone());
+        let number = counts.add(self.memory.call(&Call::Write { task })?).refusal;
 
         let told = self.tally.feed(task, bytes.len() as u64);
         let call = format!("write of {} bytes to task {task}", bytes.len());
         same(&format!("{call}, the answer by the tally"), number, told.number)?;
         if let Some(offset) = told.offset {
-            let found = &self.twin.image()[offset as usize..][..bytes.len()];
+            let found = &self.memory.image.values[offset as usize..][..bytes.len()];
             same_list(&format!("{call}, the bytes at the tally's offset"), found, &bytes)?;
         }
         if number == 0 {
@@ -82,22 +83,22 @@ impl Course {
 
     /// A write or a close of a copy in which one thing is changed.
     fn hostile(&self, rng: &mut Rng, counts: &mut Counts) -> Result<(), String> {
-        let mut copy = self.twin.clone();
-        let wanted = hostile::change(&mut copy, &self.plan, rng);
+        let mut copy = self.memory.clone();
+        let wanted = hostile::change_session(&mut copy, &self.plan, rng);
         let (task, bytes) = self.request(rng);
-        let number = if rng.one_in(3) { copy.close()?.0 } else { copy.write(task, &bytes)? };
-        counts.add(number);
+        copy.buffer = Lent::all(bytes);
+        let call = if rng.one_in(3) { Call::Close } else { Call::Write { task } };
+        let number = counts.add(copy.call(&call)?).refusal;
         same("a call after one change, the answer", number, wanted.unwrap_or(number))
     }
 
     /// A copy that is closed, after its container was loaded and read, and the container's length.
-    fn closed_copy(&self, rng: &mut Rng, counts: &mut Counts) -> Result<(Twin, u64), String> {
-        let mut copy = self.twin.clone();
-        let (number, length) = copy.close()?;
-        counts.add(number);
-        same("close, the answer", number, 0)?;
-        let blocks = copy.session().head.counts.iter().max().map_or(0, |&most| most);
-        same("close, the length by the paper", length, self.plan.end(blocks))?;
+    fn closed_copy(&self, rng: &mut Rng, counts: &mut Counts) -> Result<(Memory, u64), String> {
+        let mut copy = self.memory.clone();
+        let answer = counts.add(copy.call(&Call::Close)?);
+        let length = self.plan.end(most_chunks(&copy.session));
+        let wanted = Answer { refusal: 0, numbers: [length, 0] };
+        same("close, the answer by the paper", answer, wanted)?;
         reload(&copy, length, &self.accepted, rng, counts)
             .map_err(|difference| format!("the closed container, {difference}"))?;
         Ok((copy, length))
@@ -107,7 +108,7 @@ impl Course {
     fn request(&self, rng: &mut Rng) -> (u64, Vec<u8>) {
         let n = self.plan.sizes.len();
         let task = rng.below(n);
-        let (size, left) = (self.plan.sizes[task] as usize, self.twin.left(task));
+        let (size, left) = (self.plan.sizes[task] as usize, self.memory.left(task));
         let length = match rng.below(8) {
             0 => rng.pick(&[0, 1, size, size + 1]),
             1 | 2 => rng.pick(&[left, left + 1]),

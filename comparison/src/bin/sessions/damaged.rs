@@ -1,93 +1,96 @@
 //! Holds a closed session's container, and the faults that a load finds in its bytes and in its table.
 
+use crate::call::Call;
 use crate::drawn::spoilt_rank;
 use crate::hostile::broken_cell;
-use crate::reload;
+use crate::memory::{Lent, Memory};
 use crate::turns::{Input, Test};
-use crate::twin::Twin;
 use reference::{Container, Field, Head, Order, Rng};
 
-/// What a load tests, in the paper's order.
-pub const TESTS: [Test<Fault>; 15] = [
-    &[(Fault::Under4, 1), (Fault::Mark, 1)],
-    &[(Fault::Under8, 2), (Fault::Order, 2)],
-    &[(Fault::Under1076, 3)],
-    &[(Fault::Format, 4)],
-    &[(Fault::Blocksize, 5)],
-    &[(Fault::Ntasks, 6)],
-    &[(Fault::Nfiles, 7), (Fault::Filenumber, 7)],
-    &[(Fault::Meta1Cut, 3)],
-    &[(Fault::Rank, 8)],
-    &[(Fault::Size, 9)],
-    &[(Fault::NotClosed, 10)],
-    &[(Fault::Maxchunks, 11)],
+/// What a load tests, in the paper's order. A cut leaves what the next test looks at, so that a length fault and the next fault are both in
+/// the bytes.
+pub const TESTS: [Test<Damaged>; 15] = [
+    &[
+        ("under 4 bytes", 1, |it, _, rng| it.cut(0, 4, rng)),
+        ("mark", 1, |it, _, rng| it.container.bytes[rng.below(4)] ^= 1 << rng.below(8)),
+    ],
+    &[
+        ("under 8 bytes", 2, |it, _, rng| it.cut(4, 8, rng)),
+        ("order", 2, |it, _, rng| it.set(Field::Order, &[0, 2, 257, -1], rng)),
+    ],
+    &[("under 1076 bytes", 3, |it, _, rng| it.cut(20, 1076, rng))],
+    &[("format", 4, |it, _, rng| it.set(Field::Format, &[0, 2, 4, -3], rng))],
+    &[("blocksize", 5, |it, _, rng| {
+        it.set(Field::Blocksize, &[0, 256, 768, 8_388_608, -512], rng)
+    })],
+    &[("ntasks", 6, |it, _, rng| it.set(Field::Ntasks, &[0, 65, -1], rng))],
+    &[
+        ("nfiles", 7, |it, _, rng| it.set(Field::Nfiles, &[0, 2, -1], rng)),
+        ("filenumber", 7, |it, _, rng| it.set(Field::Filenumber, &[1, -1], rng)),
+    ],
+    &[("META1 cut", 3, |it, _, rng| {
+        it.cut(1076 + 8 * it.container.n, 1088 + 16 * it.container.n, rng);
+    })],
+    &[("rank", 8, |it, task, rng| {
+        let rank = spoilt_rank(&it.head.ranks[..it.container.n], task, rng);
+        it.container.put(Field::Rank(task), rank as i64);
+    })],
+    &[("size", 9, |it, task, rng| it.set(Field::Size(task), &[0, 1_073_741_825, -1], rng))],
+    &[("not closed", 10, |it, _, _| it.container.put(Field::Start, 0))],
+    &[("maxchunks", 11, |it, _, rng| it.set(Field::Maxchunks, &[-1, 33, 1 << 31], rng))],
     PLACE,
-    &[(Fault::Table, 18)],
+    &[("table", 18, |it, _, rng| it.cells = rng.pick(&[0, it.cells - 1]))],
     RULE,
 ];
 
 /// Test 12, which comes before test 18 and so before test 13 too.
-pub const PLACE: Test<Fault> = &[(Fault::Start, 12), (Fault::Meta2Cut, 12)];
+pub const PLACE: Test<Damaged> = &[
+    ("start", 12, |it, _, rng| {
+        let start = it.container.meta2 as i64;
+        it.set(Field::Start, &[start - 8, start + 1, -start, i64::MAX], rng);
+    }),
+    ("META2 cut", 12, |it, _, rng| {
+        let end = it.container.bytes.len();
+        it.cut(end - 8, end, rng);
+    }),
+];
 
-/// Test 13.
-pub const RULE: Test<Fault> = &[(Fault::Count, 13), (Fault::Cell, 13)];
-
-#[derive(Clone, Copy, Debug)]
-pub enum Fault {
-    Under4,
-    Mark,
-    Under8,
-    Order,
-    Under1076,
-    Format,
-    Blocksize,
-    Ntasks,
-    Nfiles,
-    Filenumber,
-    Meta1Cut,
-    Rank,
-    Size,
-    NotClosed,
-    Maxchunks,
-    Start,
-    Meta2Cut,
-    Table,
-    Count,
-    Cell,
-}
+/// Test 13; a broken cell is not the last, which a cut may take.
+pub const RULE: Test<Damaged> = &[
+    ("count", 13, |it, task, rng| {
+        it.set(Field::Count(task), &[-1, it.container.maxchunks as i64 + 1, i64::MAX], rng);
+    }),
+    ("cell", 13, |it, _, rng| {
+        let n = it.container.n;
+        let (at, value) = broken_cell(&it.head, n * it.container.maxchunks - 1, rng);
+        it.container.put(Field::Cell(at / n, at % n), value);
+    }),
+];
 
 /// A container with the head of its record, and how many cells of a table are lent to its load.
 #[derive(Clone)]
 pub struct Damaged {
     container: Container,
     head: Head,
-    cells: usize,
+    pub cells: usize,
 }
 
 impl Damaged {
     /// The container of a closed session, undamaged; none if a table short of a cell would be empty.
-    pub fn sound(closed: &Twin, length: u64) -> Option<Damaged> {
-        let head = closed.session().head.clone();
-        let bytes = closed.image()[..length as usize].to_vec();
+    pub fn sound(closed: &Memory, length: u64) -> Option<Damaged> {
+        let head = closed.session.head.clone();
+        let bytes = closed.image.values[..length as usize].to_vec();
         let container = Container::new(bytes, Order::from_number(head.order)?, head.n as usize);
         let cells = container.n * container.maxchunks;
         (cells > 1).then_some(Damaged { container, head, cells })
     }
 
-    /// The container's bytes.
-    pub fn bytes(&self) -> &[u8] {
-        &self.container.bytes
-    }
-
-    /// The cells lent to its load.
-    pub fn cells(&self) -> usize {
-        self.cells
-    }
-
-    /// Loads it over random cells.
-    pub fn load(&self, rng: &mut Rng) -> Result<u32, String> {
-        let before: Vec<i64> = (0..self.cells).map(|_| rng.number() as i64).collect();
-        Ok(reload::load(&self.container.bytes, &before)?.err().unwrap_or(0))
+    /// Loads it into a table that has these cells, and gives the answer and what is left.
+    pub fn load(&self, before: Vec<i64>) -> Result<(u32, Memory), String> {
+        let image = Lent::all(self.container.bytes.clone());
+        let mut memory = Memory::new(image, Lent::all(before));
+        let answer = memory.call(&Call::Load)?;
+        Ok((answer.refusal, memory))
     }
 
     /// One of the numbers for a field.
@@ -100,46 +103,10 @@ impl Damaged {
         let any = least + rng.below(bound - least);
         self.container.bytes.truncate(rng.pick(&[least, any, any, bound - 1]));
     }
-
-    /// A cell against META2's rule, but not the last, which a cut may take.
-    fn break_cell(&mut self, rng: &mut Rng) {
-        let (n, cells) = (self.container.n, self.container.n * self.container.maxchunks);
-        let (at, value) = broken_cell(&self.head, cells - 1, rng);
-        self.container.put(Field::Cell(at / n, at % n), value);
-    }
 }
 
-impl Input<Fault> for Damaged {
-    /// A cut leaves what the next test looks at: a length fault and the next fault are both in the bytes.
-    fn put(&mut self, fault: Fault, rng: &mut Rng) {
-        let Container { n, maxchunks, meta2, .. } = self.container;
-        let (task, end, start) = (rng.below(n), self.container.bytes.len(), meta2 as i64);
-        match fault {
-            Fault::Under4 => self.cut(0, 4, rng),
-            Fault::Mark => self.container.bytes[rng.below(4)] ^= 1 << rng.below(8),
-            Fault::Under8 => self.cut(4, 8, rng),
-            Fault::Order => self.set(Field::Order, &[0, 2, 257, -1], rng),
-            Fault::Under1076 => self.cut(20, 1076, rng),
-            Fault::Format => self.set(Field::Format, &[0, 2, 4, -3], rng),
-            Fault::Blocksize => self.set(Field::Blocksize, &[0, 256, 768, 8_388_608, -512], rng),
-            Fault::Ntasks => self.set(Field::Ntasks, &[0, 65, -1], rng),
-            Fault::Nfiles => self.set(Field::Nfiles, &[0, 2, -1], rng),
-            Fault::Filenumber => self.set(Field::Filenumber, &[1, -1], rng),
-            Fault::Meta1Cut => self.cut(1076 + 8 * n, 1088 + 16 * n, rng),
-            Fault::Rank => {
-                let rank = spoilt_rank(&self.head.ranks[..n], task, rng);
-                self.container.put(Field::Rank(task), rank as i64);
-            }
-            Fault::Size => self.set(Field::Size(task), &[0, 1_073_741_825, -1], rng),
-            Fault::NotClosed => self.container.put(Field::Start, 0),
-            Fault::Maxchunks => self.set(Field::Maxchunks, &[-1, 33, 1 << 31], rng),
-            Fault::Start => self.set(Field::Start, &[start - 8, start + 1, -start, i64::MAX], rng),
-            Fault::Meta2Cut => self.cut(end - 8, end, rng),
-            Fault::Table => self.cells = rng.pick(&[0, self.cells - 1]),
-            Fault::Count => {
-                self.set(Field::Count(task), &[-1, maxchunks as i64 + 1, i64::MAX], rng)
-            }
-            Fault::Cell => self.break_cell(rng),
-        }
+impl Input for Damaged {
+    fn any_task(&self, rng: &mut Rng) -> usize {
+        rng.below(self.container.n)
     }
 }

@@ -5,37 +5,33 @@ use crate::turns::{Input, Test};
 use reference::Rng;
 
 /// What an opening tests, in the paper's order.
-pub const TESTS: [Test<Fault>; 8] = [
-    &[(Fault::Order, 2)],
-    &[(Fault::Blocksize, 5)],
-    &[(Fault::Lists, 6)],
-    &[(Fault::Prefix, 21)],
-    &[(Fault::Rank, 8)],
-    &[(Fault::Size, 9)],
-    &[(Fault::Planned, 20)],
-    &[(Fault::Image, 18), (Fault::Table, 18)],
+pub const TESTS: [Test<Plan>; 8] = [
+    &[("order", 2, |plan, _, rng| plan.order = rng.pick(&[2, 3, u32::MAX]))],
+    &[("blocksize", 5, |plan, _, rng| plan.blocksize = rng.pick(&[0, 256, 768, 8_388_608]))],
+    &[("lists", 6, |plan, _, rng| spoil_lists(plan, rng))],
+    &[("prefix", 21, |plan, _, rng| plan.prefix = rng.bytes(1025))],
+    &[("rank", 8, |plan, task, rng| plan.ranks[task] = spoilt_rank(&plan.ranks, task, rng))],
+    &[("size", 9, |plan, task, rng| plan.sizes[task] = rng.pick(&[0, 1_073_741_825, u64::MAX]))],
+    &[("planned blocks", 20, |plan, _, rng| plan.k = spoilt_k(plan, rng))],
+    &[
+        ("image", 18, spoil_image),
+        ("table", 18, |plan, _, rng| plan.cells = rng.pick(&[0, plan.needed_cells() - 1])),
+    ],
 ];
 
-#[derive(Clone, Copy, Debug)]
-pub enum Fault {
-    Order,
-    Blocksize,
-    Lists,
-    Prefix,
-    Rank,
-    Size,
-    Planned,
-    Image,
-    Table,
+impl Input for Plan {
+    fn any_task(&self, rng: &mut Rng) -> usize {
+        rng.below(self.sizes.len())
+    }
 }
 
 /// A plan and the number that answers it: faults of later tests are put in first, so the last one decides.
 pub fn plan(rng: &mut Rng) -> (Plan, u32) {
     let (mut plan, mut answer) = (sound(rng), 0);
-    for &(fault, number) in TESTS.iter().rev().flat_map(|test| test.iter().rev()) {
+    for &fault in TESTS.iter().rev().flat_map(|test| test.iter().rev()) {
         if rng.one_in(30) {
             plan.put(fault, rng);
-            answer = number;
+            answer = fault.1;
         }
     }
     (plan, answer)
@@ -82,23 +78,6 @@ fn ranks(rng: &mut Rng, n: usize) -> Vec<u64> {
         }
     }
     ranks
-}
-
-impl Input<Fault> for Plan {
-    fn put(&mut self, fault: Fault, rng: &mut Rng) {
-        let task = rng.below(self.sizes.len());
-        match fault {
-            Fault::Order => self.order = rng.pick(&[2, 3, u32::MAX]),
-            Fault::Blocksize => self.blocksize = rng.pick(&[0, 256, 768, 8_388_608]),
-            Fault::Lists => spoil_lists(self, rng),
-            Fault::Prefix => self.prefix = rng.bytes(1025),
-            Fault::Rank => self.ranks[task] = spoilt_rank(&self.ranks, task, rng),
-            Fault::Size => self.sizes[task] = rng.pick(&[0, 1_073_741_825, u64::MAX]),
-            Fault::Planned => self.k = spoilt_k(self, rng),
-            Fault::Image => spoil_image(self, task, rng),
-            Fault::Table => self.cells = rng.pick(&[0, self.needed_cells() - 1]),
-        }
-    }
 }
 
 /// No task, 65 tasks, or lists of unequal length.

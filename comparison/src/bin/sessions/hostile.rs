@@ -1,34 +1,26 @@
-//! Holds the changes to a good session, each of one thing, after which a call may be out of order.
+//! Holds the changes to a good session and to a loaded container, each of one thing, after which a call may be out of order.
 
 use crate::drawn::spoilt_rank;
+use crate::memory::Memory;
 use crate::plan::Plan;
-use crate::twin::Twin;
 use lapurmihi::TASKS;
-use reference::{Head, Rng, Session};
+use reference::{Head, Loaded, Rng, Session};
 
-/// Changes one thing; gives the number that every call must then answer, or none where that depends on more than the change.
-pub fn change(twin: &mut Twin, plan: &Plan, rng: &mut Rng) -> Option<u32> {
-    match rng.below(6) {
-        0 | 1 => {
-            twin.change_record(|session| spoil_record(session, rng));
-            Some(17)
-        }
-        2 => {
-            lend_less(twin, plan, rng);
-            Some(18)
-        }
-        3 => {
-            spoil_cell(twin, rng);
-            Some(19)
-        }
-        4 => {
-            twin.change_record(|session| change_record(session, rng));
-            None
-        }
-        _ => {
-            change_cell(twin, rng);
-            None
-        }
+/// Changes one thing of a session; gives the number that every call must then answer, or none where that depends on more than the change.
+pub fn change_session(memory: &mut Memory, plan: &Plan, rng: &mut Rng) -> Option<u32> {
+    let change = rng.below(6);
+    match change {
+        0 | 1 => spoil_record(&mut memory.session, rng),
+        2 => lend_less(memory, plan, rng),
+        3 => spoil_cell(memory, rng),
+        4 => change_record(&mut memory.session, rng),
+        _ => change_cell(memory, rng),
+    }
+    match change {
+        0 | 1 => Some(17),
+        2 => Some(18),
+        3 => Some(19),
+        _ => None,
     }
 }
 
@@ -60,20 +52,19 @@ pub fn spoil_head(head: &mut Head, rng: &mut Rng) {
 }
 
 /// An image or a table that is too short.
-fn lend_less(twin: &mut Twin, plan: &Plan, rng: &mut Rng) {
+fn lend_less(memory: &mut Memory, plan: &Plan, rng: &mut Rng) {
     match rng.below(4) {
-        0 => twin.bytes = plan.needed_bytes() - 1,
-        1 => twin.bytes = rng.pick(&[0, 1088]),
-        2 => twin.cells = plan.needed_cells() - 1,
-        _ => twin.cells = 0,
+        0 => memory.image.length = plan.needed_bytes() - 1,
+        1 => memory.image.length = rng.pick(&[0, 1088]),
+        2 => memory.table.length = plan.needed_cells() - 1,
+        _ => memory.table.length = 0,
     }
 }
 
 /// One of the n·K cells against META2's rule.
-fn spoil_cell(twin: &mut Twin, rng: &mut Rng) {
-    let Session { head, k } = twin.session();
-    let (at, value) = broken_cell(head, (head.n * k) as usize, rng);
-    twin.set_cell(at, value);
+fn spoil_cell(Memory { session, table, .. }: &mut Memory, rng: &mut Rng) {
+    let (at, value) = broken_cell(&session.head, (session.head.n * session.k) as usize, rng);
+    table.values[at] = value;
 }
 
 /// The index of one of the first cells, and a value for it against META2's rule.
@@ -106,7 +97,7 @@ fn change_record(session: &mut Session, rng: &mut Rng) {
 }
 
 /// Any of the lists past n, where its entries are not judged.
-pub fn fill_behind(head: &mut Head, rng: &mut Rng) {
+fn fill_behind(head: &mut Head, rng: &mut Rng) {
     for list in [&mut head.ranks, &mut head.sizes, &mut head.counts] {
         if rng.one_in(2) {
             list[head.n as usize..].fill_with(|| rng.number());
@@ -115,13 +106,12 @@ pub fn fill_behind(head: &mut Head, rng: &mut Rng) {
 }
 
 /// A used cell set to another value that it may have, or a cell behind the n·K that are judged.
-fn change_cell(twin: &mut Twin, rng: &mut Rng) {
-    let Session { head, k } = twin.session();
-    let (at, used, size) = any_cell(head, (head.n * k) as usize, rng);
+fn change_cell(Memory { session, table, .. }: &mut Memory, rng: &mut Rng) {
+    let (at, used, size) = any_cell(&session.head, (session.head.n * session.k) as usize, rng);
     if used {
-        twin.set_cell(at, rng.below(size as usize + 1) as i64);
-    } else {
-        twin.set_cell(twin.table().len() - 1, rng.number() as i64);
+        table.values[at] = rng.below(size as usize + 1) as i64;
+    } else if let Some(last) = table.values.last_mut() {
+        *last = rng.number() as i64;
     }
 }
 
@@ -130,4 +120,30 @@ fn any_cell(head: &Head, cells: usize, rng: &mut Rng) -> (usize, bool, i64) {
     let at = rng.below(cells);
     let (chunk, task) = (at / head.n as usize, at % head.n as usize);
     (at, (chunk as u64) < head.counts[task], head.sizes[task] as i64)
+}
+
+/// One field, length or cell of a loaded container set to another value.
+pub fn change_loaded(memory: &mut Memory, rng: &mut Rng) {
+    let Memory { loaded: Loaded { head, maxchunks }, image, table, .. } = memory;
+    let task = rng.below(head.n as usize);
+    match rng.below(13) {
+        0 => head.closed = rng.pick(&[1, 7, u32::MAX]),
+        1 => head.order = rng.pick(&[1 - head.order, 2]),
+        2 => head.blocksize = rng.pick(&[768, 2 * head.blocksize]),
+        3 => head.n = rng.pick(&[0, 65, head.n - 1, head.n + 1]),
+        4 => head.ranks[task] = rng.pick(&[1 << 31, head.ranks[0]]),
+        5 => head.sizes[task] = rng.pick(&[0, 1, head.sizes[task] + 1]),
+        6 => head.counts[task] = rng.pick(&[0, 33, head.counts[task] + 1]),
+        7 => *maxchunks = rng.pick(&[*maxchunks + 1, 33]),
+        8 => image.length = rng.pick(&[image.length - 60, 1_088]),
+        9 => head.version = rng.number() as i32,
+        10 => head.patch = rng.number() as i32,
+        11 if (head.n as usize) < TASKS => fill_behind(head, rng),
+        _ if table.length == 0 => head.order = u32::MAX,
+        _ if rng.one_in(3) => table.length -= 1,
+        _ => {
+            let at = rng.below(table.length);
+            table.values[at] = rng.pick(&[-2, -1, 0, 1, i64::MAX]);
+        }
+    }
 }

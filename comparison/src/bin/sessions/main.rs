@@ -1,21 +1,23 @@
 //! Holds the comparison of random sessions and of what is read of them: the library against the reference, and against the tally of
 //! demand 3, call by call.
 
+mod both;
+mod call;
 mod counts;
 mod course;
 mod damaged;
 mod drawn;
 mod hostile;
+mod library;
+mod memory;
 mod numbers;
 mod pairs;
 mod plan;
-mod questions;
-mod reads;
 mod reload;
 mod requests;
 mod same;
+mod second;
 mod turns;
-mod twin;
 
 use counts::Counts;
 use pairs::Pairs;

@@ -1,5 +1,10 @@
 //! Holds what an opening is given, and the paper's formulas for where its chunks lie and what it needs.
 
+use crate::call::{Answer, Call};
+use crate::memory::Memory;
+use reference::Rng;
+use std::fmt::{Debug, Formatter, Result as Written};
+
 /// What an opening is given, with the lengths of the image and the table that are lent.
 #[derive(Clone)]
 pub struct Plan {
@@ -24,6 +29,14 @@ impl Plan {
         let (bytes, cells) = (0, 0);
         let plan = Plan { order, version, patch, blocksize, ranks, sizes, prefix, k, bytes, cells };
         Plan { bytes: plan.needed_bytes(), cells: plan.needed_cells(), ..plan }
+    }
+
+    /// Asks what the opening needs and opens a session over random bytes and cells, on both sides; gives the answer and what is left.
+    pub fn open(&self, rng: &mut Rng) -> Result<(Answer, Memory), String> {
+        let mut memory = Memory::random(self.bytes, self.cells, rng);
+        memory.call(&Call::Needs(self.clone()))?;
+        let answer = memory.call(&Call::Open(self.clone()))?;
+        Ok((answer, memory))
     }
 
     /// The image needed: D + K·G + 8n(1+K).
@@ -62,5 +75,17 @@ impl Plan {
     fn multiple(&self, number: u64) -> u64 {
         let blocksize = u64::from(self.blocksize);
         number.div_ceil(blocksize) * blocksize
+    }
+}
+
+/// Names all but the bytes of the prefix, which only count.
+impl Debug for Plan {
+    fn fmt(&self, text: &mut Formatter) -> Written {
+        let Plan { order, version, patch, blocksize, ranks, sizes, prefix, k, .. } = self;
+        write!(
+            text,
+            "order {order}, version {version}, patch level {patch}, blocksize {blocksize}, "
+        )?;
+        write!(text, "ranks {ranks:?}, sizes {sizes:?}, prefix of {} bytes, K {k}", prefix.len())
     }
 }

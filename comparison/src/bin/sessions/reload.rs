@@ -1,62 +1,78 @@
-//! Holds the load of a closed session's container: it has the session's fields and each task's accepted bytes.
+//! Holds the load of a closed session's container, which has the session's fields and each task's accepted bytes, and all reads of it.
 
+use crate::call::{Answer, Call};
 use crate::counts::Counts;
-use crate::reads::{self, Opened};
-use crate::same::{same, same_list, same_loaded};
-use crate::twin::Twin;
-use comparison::loaded_of;
-use lapurmihi::raw;
-use reference::{Head, Loaded, Rng};
+use crate::hostile;
+use crate::memory::{random_cells, Lent, Memory};
+use crate::same::{same, same_list, same_memory};
+use reference::{Head, Loaded, Rng, Session};
 
 /// The most bytes behind the container.
 const BEHIND: usize = 50;
 
-/// Loads the first bytes of the image, with random ones behind them, and reads every task, on both sides.
+/// Loads the container of so many bytes that a closed session left, with random ones behind it, and reads every task.
 pub fn reload(
-    twin: &Twin,
+    closed: &Memory,
     length: u64,
     accepted: &[Vec<u8>],
     rng: &mut Rng,
     counts: &mut Counts,
 ) -> Result<(), String> {
     let behind = rng.below(BEHIND + 1);
-    let image = [&twin.image()[..length as usize], &rng.bytes(behind)].concat();
-    let wanted = expected(twin);
-    let cells = wanted.head.n as usize * wanted.maxchunks as usize;
-    let before: Vec<i64> = (0..cells + rng.below(5)).map(|_| rng.number() as i64).collect();
+    let image = [&closed.image.values[..length as usize], &rng.bytes(behind)].concat();
+    let head = Head { closed: 0, ..closed.session.head.clone() };
+    let loaded = Loaded { maxchunks: most_chunks(&closed.session) as u32, head };
+    let cells = (loaded.head.n * loaded.maxchunks) as usize;
+    let more = rng.below(5);
+    let before = random_cells(cells + more, rng);
+    let table = Lent::all([&closed.table.values[..cells], &before[cells..]].concat());
 
-    let (loaded, table) =
-        load(&image, &before)?.map_err(|number| format!("it is refused with {number}"))?;
-    same_loaded(&loaded_of(&loaded), &loaded_of(&wanted))?;
-    same_list("loaded cells", &table, &[&twin.table()[..cells], &before[cells..]].concat())?;
+    let mut memory = Memory::new(Lent::all(image), Lent::all(before));
+    same("the answer", memory.call(&Call::Load)?.refusal, 0)?;
+    same_memory(&memory.for_library(), &Memory { loaded, table, ..memory.clone() })?;
     for (task, bytes) in (1..).zip(accepted) {
-        let mut out = vec![0; bytes.len() + 1];
-        let count = reference::read(&loaded, &image, &table, task, 0, &mut out);
-        same(&format!("bytes read of task {task}"), count, Ok(bytes.len() as u64))?;
-        same_list(&format!("the stream of task {task}"), &out[..bytes.len()], bytes)?;
+        memory.buffer = Lent::all(vec![0; bytes.len() + 1]);
+        let answer = memory.call(&Call::Read { task, place: 0 })?;
+        let wanted = Answer { refusal: 0, numbers: [bytes.len() as u64, 0] };
+        same(&format!("bytes read of task {task}"), answer, wanted)?;
+        let stream = &memory.buffer.values[..bytes.len()];
+        same_list(&format!("the stream of task {task}"), stream, bytes)?;
     }
-    reads::compare(&Opened { record: loaded, image, table }, rng, counts)
+    read_all(memory, rng, counts)
 }
 
-/// Loads on both sides over the same cells; gives what both answer, the record and the table or a number.
-pub fn load(image: &[u8], before: &[i64]) -> Result<Result<(Loaded, Vec<i64>), u32>, String> {
-    let (mut ours, mut theirs) = (before.to_vec(), before.to_vec());
-    let answer = raw::load(image, &mut ours);
-    let wanted = reference::load(image, &mut theirs);
-    let number = wanted.as_ref().err().copied().unwrap_or(0);
-    let record = wanted.clone().unwrap_or_else(|_| Loaded::refused());
-    same("the answer to the load", answer.refusal, number)?;
-    same_loaded(&answer.loaded, &loaded_of(&record))?;
-    same_list("the table", &ours, &theirs)?;
-    if number != 0 {
-        same_list("the table of a refused load", &ours, before)?;
-    }
-    Ok(wanted.map(|loaded| (loaded, ours)))
+/// The greatest number of chunks that a task has begun.
+pub fn most_chunks(session: &Session) -> u64 {
+    session.head.counts.iter().max().map_or(0, |&most| most)
 }
 
-/// The record that the load of a closed session's container gives.
-fn expected(twin: &Twin) -> Loaded {
-    let head = Head { closed: 0, ..twin.session().head.clone() };
-    let maxchunks = head.counts.iter().max().map_or(0, |&most| most as u32);
-    Loaded { head, maxchunks }
+/// Reads every chunk and stream, those that are not there included, then some of them after one change.
+fn read_all(mut memory: Memory, rng: &mut Rng, counts: &mut Counts) -> Result<(), String> {
+    let (tasks, chunks) = (u64::from(memory.loaded.head.n), u64::from(memory.loaded.maxchunks));
+    for task in 0..=tasks + 1 {
+        for chunk in 0..=chunks + 1 {
+            counts.add(memory.call(&Call::Chunk { task, chunk })?);
+        }
+        read_stream(&mut memory, task, rng, counts)?;
+    }
+    hostile::change_loaded(&mut memory, rng);
+    let (task, chunk) = (rng.below(tasks as usize + 2) as u64, rng.below(3) as u64);
+    counts.add(memory.call(&Call::Chunk { task, chunk })?);
+    read_stream(&mut memory, task, rng, counts)
+}
+
+/// Asks for a task's total, and reads from a random place in its stream, or from just behind it.
+fn read_stream(
+    memory: &mut Memory,
+    task: u64,
+    rng: &mut Rng,
+    counts: &mut Counts,
+) -> Result<(), String> {
+    let total = counts.add(memory.call(&Call::Total { task })?).numbers[0] as usize;
+    let (at, length) = (rng.below(total + 1), rng.below(total + 1));
+    let place = rng.pick(&[0, at, total, total + 1, usize::MAX]) as u64;
+    let length = rng.pick(&[0, 1, length, total, total + 9]);
+    memory.buffer = Lent::all(rng.bytes(length));
+    counts.add(memory.call(&Call::Read { task, place })?);
+    Ok(())
 }

@@ -1,102 +1,136 @@
-//! Holds a request to an open session, and the faults that a write and a close find.
+//! Holds the calls of an open session and of a loaded container, and the faults that they find.
 
+use crate::call::Call;
 use crate::hostile::{broken_cell, spoil_head};
+use crate::memory::{Lent, Memory};
 use crate::plan::Plan;
 use crate::turns::{Input, Test};
-use crate::twin::Twin;
-use reference::Rng;
+use reference::{Head, Rng, Session};
 
-/// What a write tests, in the paper's order; an empty request is accepted where a long one is refused.
-pub const WRITE: [Test<Fault>; 6] = [
-    &[(Fault::Record, 17)],
-    &[(Fault::Image, 18), (Fault::Table, 18)],
-    &[(Fault::Cell, 19)],
-    &[(Fault::Task, 14)],
-    &[(Fault::Empty, 0), (Fault::Long, 15)],
-    &[(Fault::Full, 16)],
+/// The call of an entry that names a task, and a chunk or a place of it.
+pub type Ask = fn(u64, u64) -> Call;
+
+/// An entry: its name, its tests in the paper's order, and the call of it.
+pub type Entry = (&'static str, &'static [Test<Request>], Ask);
+
+/// The entries that take a session's record.
+pub const OF_SESSION: [Entry; 2] = [
+    ("write", &[RECORD, LENT, CELL, TASK, LENGTH, FULL], |task, _| Call::Write { task }),
+    ("close", &[RECORD, LENT, CELL], |_, _| Call::Close),
 ];
 
-/// How many of a write's tests a close makes.
-pub const OF_CLOSE: usize = 3;
+/// The entries that take a loaded container's record.
+pub const OF_LOADED: [Entry; 3] = [
+    ("chunk", &[RECORD, LENT, CELL, TASK, CHUNK], |task, chunk| Call::Chunk { task, chunk }),
+    ("total", &[RECORD, LENT, CELL, TASK], |task, _| Call::Total { task }),
+    ("read", &[RECORD, LENT, CELL, TASK, PLACE], |task, place| Call::Read { task, place }),
+];
 
-#[derive(Clone, Copy, Debug)]
-pub enum Fault {
-    Record,
-    Image,
-    Table,
-    Cell,
-    Task,
-    Empty,
-    Long,
-    Full,
-}
+const RECORD: Test<Request> = &[("record", 17, |it, _, rng| spoil_head(it.head(), rng))];
+const LENT: Test<Request> = &[
+    ("image", 18, |it, _, rng| {
+        it.memory.image.length = rng.pick(&[0, 1088, it.memory.image.length - 1]);
+    }),
+    ("table", 18, |it, _, _| it.memory.table.length -= 1),
+];
+const CELL: Test<Request> = &[("cell", 19, |it, _, rng| it.break_cell(rng))];
+const TASK: Test<Request> = &[("task", 14, |it, _, rng| it.name_none(rng))];
+/// An empty request is accepted where a long one is refused.
+const LENGTH: Test<Request> = &[
+    ("empty", 0, |it, _, _| it.memory.buffer = Lent::all(vec![])),
+    ("long", 15, |it, _, rng| it.lengthen(rng)),
+];
+const FULL: Test<Request> = &[("full", 16, |it, task, _| it.fill(task))];
+const CHUNK: Test<Request> = &[("chunk", 22, |it, _, rng| it.at = rng.pick(&[0, 33, u64::MAX]))];
+const PLACE: Test<Request> = &[("place", 23, |it, _, rng| it.at = rng.pick(&[1 << 40, u64::MAX]))];
 
-/// A request to a copy of a session.
+/// What a call is made on, and what it names; it is in order until a fault is put in.
 #[derive(Clone)]
 pub struct Request {
-    twin: Twin,
-    bytes_needed: usize,
-    cells_needed: usize,
-    /// The task, counted from 1, or none that there is.
-    task: u64,
-    bytes: Vec<u8>,
+    memory: Memory,
+    /// Whether the call goes by the session's record, not by the loaded one.
+    of_session: bool,
+    /// The task, counted from 0, and the one that the call names, counted from 1.
+    task: usize,
+    named: u64,
+    /// The chunk or the place that the call names.
+    at: u64,
+}
+
+impl Input for Request {
+    fn any_task(&self, _: &mut Rng) -> usize {
+        self.task
+    }
 }
 
 impl Request {
-    /// One byte for a task that has room; none if no task has, or if a table short of a cell would be empty.
-    pub fn sound(twin: &Twin, plan: &Plan, rng: &mut Rng) -> Option<Request> {
-        let (bytes_needed, cells_needed) = (plan.needed_bytes(), plan.needed_cells());
-        let roomy: Vec<usize> = (0..plan.sizes.len()).filter(|&task| twin.room(task)).collect();
-        if roomy.is_empty() || cells_needed < 2 {
+    /// One byte for a task that has room, with no more lent than is needed; none if no task has, or if a table short of a cell would be
+    /// empty.
+    pub fn of_session(memory: &Memory, plan: &Plan, rng: &mut Rng) -> Option<Request> {
+        let roomy: Vec<usize> = (0..plan.sizes.len()).filter(|&task| memory.room(task)).collect();
+        if roomy.is_empty() || plan.needed_cells() < 2 {
             return None;
         }
-        let (task, bytes) = (rng.pick(&roomy) as u64 + 1, rng.bytes(1));
-        Some(Request { twin: twin.clone(), bytes_needed, cells_needed, task, bytes })
+        let (task, mut memory) = (rng.pick(&roomy), memory.clone());
+        memory.buffer = Lent::all(rng.bytes(1));
+        memory.image.length = plan.needed_bytes();
+        memory.table.length = plan.needed_cells();
+        Some(Request::new(memory, true, task))
     }
 
-    pub fn write(&mut self) -> Result<u32, String> {
-        self.twin.write(self.task, &self.bytes)
+    /// A chunk, the total or the stream of a task that has a chunk.
+    pub fn of_loaded(memory: Memory, rng: &mut Rng) -> Request {
+        let counts = memory.loaded.head.counts;
+        let used: Vec<usize> = (0..counts.len()).filter(|&task| counts[task] > 0).collect();
+        Request::new(memory, false, rng.pick(&used))
     }
 
-    pub fn close(&mut self) -> Result<u32, String> {
-        Ok(self.twin.close()?.0)
+    fn new(memory: Memory, of_session: bool, task: usize) -> Request {
+        Request { memory, of_session, task, named: task as u64 + 1, at: 1 }
+    }
+
+    /// Makes the call on both sides, a read into random bytes, and gives the answer.
+    pub fn make(&self, ask: Ask, rng: &mut Rng) -> Result<u32, String> {
+        let (call, mut memory) = (ask(self.named, self.at), self.memory.clone());
+        if let Call::Read { .. } = call {
+            memory.buffer = Lent::all(rng.bytes(9));
+        }
+        Ok(memory.call(&call)?.refusal)
+    }
+
+    /// What both kinds of record hold, of the one that the call goes by.
+    fn head(&mut self) -> &mut Head {
+        match self.of_session {
+            true => &mut self.memory.session.head,
+            false => &mut self.memory.loaded.head,
+        }
+    }
+
+    /// A cell against META2's rule, but not the last, which the table may be short of.
+    fn break_cell(&mut self, rng: &mut Rng) {
+        let cells = self.memory.table.length - 1;
+        let (at, value) = broken_cell(self.head(), cells, rng);
+        self.memory.table.values[at] = value;
+    }
+
+    /// A task that there is not.
+    fn name_none(&mut self, rng: &mut Rng) {
+        let n = u64::from(self.head().n);
+        self.named = rng.pick(&[0, n + 1, u64::MAX]);
     }
 
     /// One byte more than any task may write at once.
     fn lengthen(&mut self, rng: &mut Rng) {
-        let longest = self.twin.session().head.sizes.iter().max().map_or(0, |&size| size as usize);
-        self.bytes = rng.bytes(longest + 1);
+        let longest = self.head().sizes.into_iter().max().unwrap_or(0);
+        self.memory.buffer = Lent::all(rng.bytes(longest as usize + 1));
     }
 
     /// Every chunk of the task in use, and no room in the last.
-    fn fill(&mut self) {
-        let task = self.task as usize - 1;
-        self.twin.change_record(|session| session.head.counts[task] = u64::from(session.k));
-        let reference::Session { head, k } = self.twin.session();
-        let (n, k, size) = (head.n as usize, *k as usize, head.sizes[task] as i64);
-        for chunk in 0..k {
-            self.twin.set_cell(chunk * n + task, size);
-        }
-    }
-}
-
-impl Input<Fault> for Request {
-    fn put(&mut self, fault: Fault, rng: &mut Rng) {
-        match fault {
-            Fault::Record => self.twin.change_record(|session| spoil_head(&mut session.head, rng)),
-            Fault::Image => self.twin.bytes = rng.pick(&[0, 1088, self.bytes_needed - 1]),
-            Fault::Table => self.twin.cells = self.cells_needed - 1,
-            Fault::Cell => {
-                let head = &self.twin.session().head;
-                let (at, value) = broken_cell(head, self.cells_needed - 1, rng);
-                self.twin.set_cell(at, value);
-            }
-            Fault::Task => {
-                self.task = rng.pick(&[0, u64::from(self.twin.session().head.n) + 1, u64::MAX]);
-            }
-            Fault::Empty => self.bytes.clear(),
-            Fault::Long => self.lengthen(rng),
-            Fault::Full => self.fill(),
+    fn fill(&mut self, task: usize) {
+        let Memory { session: Session { head, k }, table, .. } = &mut self.memory;
+        head.counts[task] = u64::from(*k);
+        for chunk in 0..*k as usize {
+            table.values[chunk * head.n as usize + task] = head.sizes[task] as i64;
         }
     }
 }

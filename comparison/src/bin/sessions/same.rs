@@ -1,6 +1,7 @@
 //! Holds the comparisons: each passes, or says in words what the library has and what is wanted by the reference or the paper.
 
-use lapurmihi::raw::{Loaded, LoadedNumbers, Session, SessionNumbers};
+use crate::memory::{LibraryMemory, Memory};
+use comparison::{loaded_of, session_of};
 use std::fmt::Debug;
 
 pub fn same<T: PartialEq + Debug>(what: &str, library: T, wanted: T) -> Result<(), String> {
@@ -26,32 +27,25 @@ pub fn same_list<T: PartialEq + Debug>(
     }
 }
 
-pub fn same_session(library: &Session, wanted: &Session) -> Result<(), String> {
-    let Session { numbers, ranks, sizes, counts } = library;
-    let SessionNumbers { order, version, patch, blocksize, n, planned, closed } = *numbers;
-    same("record's order", order, wanted.numbers.order)?;
-    same("record's version", version, wanted.numbers.version)?;
-    same("record's patch level", patch, wanted.numbers.patch)?;
-    same("record's blocksize", blocksize, wanted.numbers.blocksize)?;
-    same("record's n", n, wanted.numbers.n)?;
-    same("record's K", planned, wanted.numbers.planned)?;
-    same("record's closed mark", closed, wanted.numbers.closed)?;
-    same_list("record's ranks", ranks, &wanted.ranks)?;
-    same_list("record's sizes", sizes, &wanted.sizes)?;
-    same_list("record's counts", counts, &wanted.counts)
+/// All that a call works on: both records with their lists, and the lent memory.
+pub fn same_memory(library: &LibraryMemory, wanted: &Memory) -> Result<(), String> {
+    let (ours, theirs) = (&library.session, session_of(&wanted.session));
+    same("the session's numbers", ours.numbers, theirs.numbers)?;
+    same_list("the session's ranks", &ours.ranks, &theirs.ranks)?;
+    same_list("the session's sizes", &ours.sizes, &theirs.sizes)?;
+    same_list("the session's counts", &ours.counts, &theirs.counts)?;
+
+    let (ours, theirs) = (&library.loaded, loaded_of(&wanted.loaded));
+    same("the loaded numbers", ours.numbers, theirs.numbers)?;
+    same_list("the loaded ranks", &ours.ranks, &theirs.ranks)?;
+    same_list("the loaded sizes", &ours.sizes, &theirs.sizes)?;
+    same_list("the loaded counts", &ours.counts, &theirs.counts)?;
+    same_lent(library, wanted)
 }
 
-pub fn same_loaded(library: &Loaded, wanted: &Loaded) -> Result<(), String> {
-    let Loaded { numbers, ranks, sizes, counts } = library;
-    let LoadedNumbers { order, version, patch, blocksize, n, maxchunks, closed } = *numbers;
-    same("loaded order", order, wanted.numbers.order)?;
-    same("loaded version", version, wanted.numbers.version)?;
-    same("loaded patch level", patch, wanted.numbers.patch)?;
-    same("loaded blocksize", blocksize, wanted.numbers.blocksize)?;
-    same("loaded n", n, wanted.numbers.n)?;
-    same("loaded maxchunks", maxchunks, wanted.numbers.maxchunks)?;
-    same("loaded closed mark", closed, wanted.numbers.closed)?;
-    same_list("loaded ranks", ranks, &wanted.ranks)?;
-    same_list("loaded sizes", sizes, &wanted.sizes)?;
-    same_list("loaded counts", counts, &wanted.counts)
+/// The lent memory, and what stands behind it.
+pub fn same_lent(library: &LibraryMemory, wanted: &Memory) -> Result<(), String> {
+    same_list("the image", &library.image.values, &wanted.image.values)?;
+    same_list("the table", &library.table.values, &wanted.table.values)?;
+    same_list("the buffer", &library.buffer.values, &wanted.buffer.values)
 }

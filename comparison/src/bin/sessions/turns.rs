@@ -2,39 +2,47 @@
 
 use crate::same::same;
 use reference::Rng;
-use std::fmt::Debug;
 
-/// One test of an entry: the faults that it finds, each with the number that answers it.
-pub type Test<F> = &'static [(F, u32)];
+/// A fault: its name, the number that answers it, and how it is put in, at a task counted from 0 if it is one of a task's. A fault of a
+/// later test that is there already stays one.
+pub type Fault<I> = (&'static str, u32, fn(&mut I, usize, &mut Rng));
+
+/// One test of an entry: the faults that it finds.
+pub type Test<I> = &'static [Fault<I>];
 
 /// What a call is given, into which faults can be put.
-pub trait Input<F>: Clone {
-    /// Puts a fault in, beside which a fault of a later test that is there already stays one.
-    fn put(&mut self, fault: F, rng: &mut Rng);
+pub trait Input: Clone {
+    /// The task, counted from 0, for a fault of one task.
+    fn any_task(&self, rng: &mut Rng) -> usize;
+
+    fn put(&mut self, (_, _, put): Fault<Self>, rng: &mut Rng) {
+        let task = self.any_task(rng);
+        put(self, task, rng);
+    }
 }
 
-/// Two faults with their numbers, of which the earlier test's answers both together, and how often they came.
-struct Pair<F> {
-    earlier: (F, u32),
-    later: (F, u32),
+/// Two faults, of which the earlier test's number answers both together, and how often they came.
+struct Pair<I> {
+    earlier: Fault<I>,
+    later: Fault<I>,
     times: u64,
 }
 
 /// The pairs of an entry.
-pub struct Turns<F> {
+pub struct Turns<I> {
     entry: &'static str,
-    pairs: Vec<Pair<F>>,
+    pairs: Vec<Pair<I>>,
 }
 
-impl<F: Copy + Debug> Turns<F> {
+impl<I: Input> Turns<I> {
     /// Takes an entry's tests in the paper's order, and pairs every fault of a test with every fault of the next one.
-    pub fn new(entry: &'static str, tests: &[Test<F>]) -> Turns<F> {
+    pub fn new(entry: &'static str, tests: &[Test<I>]) -> Turns<I> {
         let none = Turns { entry, pairs: vec![] };
         tests.windows(2).fold(none, |turns, two| turns.and(two[0], two[1]))
     }
 
     /// Adds the pairs of two tests.
-    pub fn and(mut self, earlier: Test<F>, later: Test<F>) -> Turns<F> {
+    pub fn and(mut self, earlier: Test<I>, later: Test<I>) -> Turns<I> {
         for &earlier in earlier {
             self.pairs.extend(later.iter().map(|&later| Pair { earlier, later, times: 0 }));
         }
@@ -42,19 +50,19 @@ impl<F: Copy + Debug> Turns<F> {
     }
 
     /// Makes the call with the pair that came least often: first with the later fault alone, which is so known to be one, then with both.
-    pub fn run<I: Input<F>>(
+    pub fn run(
         &mut self,
         sound: &I,
         rng: &mut Rng,
-        call: impl Fn(&mut I, &mut Rng) -> Result<u32, String>,
+        call: impl Fn(&I, &mut Rng) -> Result<u32, String>,
     ) -> Result<(), String> {
         let least = self.pairs.iter_mut().min_by_key(|pair| pair.times);
         let pair = least.ok_or("no pairs of faults")?;
         let mut input = sound.clone();
-        for (which, (fault, wanted)) in [("the later alone", pair.later), ("both", pair.earlier)] {
+        for (which, fault) in [("the later alone", pair.later), ("both", pair.earlier)] {
             input.put(fault, rng);
-            call(&mut input.clone(), rng)
-                .and_then(|number| same("the answer by the paper's order", number, wanted))
+            call(&input, rng)
+                .and_then(|number| same("the answer by the paper's order", number, fault.1))
                 .map_err(|difference| {
                     format!("{}, {which}, {difference}", pair.name(self.entry))
                 })?;
@@ -69,7 +77,7 @@ impl<F: Copy + Debug> Turns<F> {
     }
 }
 
-impl<F: Debug> Pair<F> {
+impl<I> Pair<I> {
     fn name(&self, entry: &str) -> String {
         format!("{entry} with the faults {:?} and {:?}", self.earlier.0, self.later.0)
     }

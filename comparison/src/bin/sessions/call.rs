@@ -1,0 +1,24 @@
+//! Holds the calls, one variant for each entry, and what is answered to them. What a call does stands in `library.rs` and in `second.rs`,
+//! an arm for each variant.
+
+use crate::plan::Plan;
+
+/// A call with all that it is given beside its record and the lent memory; tasks and chunks are counted from 1.
+#[derive(Clone, Debug)]
+pub enum Call {
+    Needs(Plan),
+    Open(Plan),
+    Write { task: u64 },
+    Close,
+    Load,
+    Chunk { task: u64, chunk: u64 },
+    Total { task: u64 },
+    Read { task: u64, place: u64 },
+}
+
+/// The refusal number or 0, and the numbers beside it, which are 0 where an entry has none or refuses.
+#[derive(Clone, Copy, Debug, PartialEq, Eq)]
+pub struct Answer {
+    pub refusal: u32,
+    pub numbers: [u64; 2],
+}

@@ -1,0 +1,61 @@
+//! Holds the library's side of each call.
+
+use crate::call::{Answer, Call};
+use crate::memory::{LibraryMemory, Memory};
+use crate::plan::Plan;
+use lapurmihi::raw::{self, ByteCount, Closed, Loaded, Needed, Part, Session};
+
+/// Makes the call, and gives the answer.
+pub fn answer(call: &Call, memory: &mut LibraryMemory) -> Answer {
+    let Memory { session, loaded, image, table, buffer } = memory;
+    let (image, table, buffer) = (image.lend(), table.lend(), buffer.lend());
+    match *call {
+        Call::Needs(ref plan) => needs(plan),
+        Call::Open(ref plan) => open(plan, session, image, table),
+        Call::Write { task } => plain(raw::write(session, image, table, task, buffer)),
+        Call::Close => {
+            let Closed { refusal, length } = raw::close(session, image, table);
+            Answer { refusal, numbers: [length, 0] }
+        }
+        Call::Load => load(loaded, image, table),
+        Call::Chunk { task, chunk } => {
+            let Part { refusal, start, length } = raw::chunk(loaded, image, table, task, chunk);
+            Answer { refusal, numbers: [start, length] }
+        }
+        Call::Total { task } => counted(raw::total(loaded, image, table, task)),
+        Call::Read { task, place } => counted(raw::read(loaded, image, table, task, place, buffer)),
+    }
+}
+
+fn needs(plan: &Plan) -> Answer {
+    let Plan { ranks, sizes, prefix, .. } = plan;
+    let Needed { refusal, image, cells } = raw::needs(numbers(plan), ranks, sizes, prefix);
+    Answer { refusal, numbers: [image, cells] }
+}
+
+fn open(plan: &Plan, session: &mut Session, image: &mut [u8], table: &mut [i64]) -> Answer {
+    let Plan { ranks, sizes, prefix, .. } = plan;
+    let opened = raw::open(numbers(plan), ranks, sizes, prefix, image, table);
+    *session = opened.session;
+    plain(opened.refusal)
+}
+
+fn load(loaded: &mut Loaded, image: &[u8], table: &mut [i64]) -> Answer {
+    let answer = raw::load(image, table);
+    *loaded = answer.loaded;
+    plain(answer.refusal)
+}
+
+/// What of a plan is neither a list nor the prefix.
+fn numbers(plan: &Plan) -> raw::Plan {
+    let Plan { order, version, patch, blocksize, k: planned, .. } = *plan;
+    raw::Plan { order, version, patch, blocksize, planned }
+}
+
+fn plain(refusal: u32) -> Answer {
+    Answer { refusal, numbers: [0, 0] }
+}
+
+fn counted(ByteCount { refusal, bytes }: ByteCount) -> Answer {
+    Answer { refusal, numbers: [bytes, 0] }
+}

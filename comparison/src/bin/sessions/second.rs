@@ -1,0 +1,57 @@
+//! Holds the reference's side of each call.
+
+use crate::call::{Answer, Call};
+use crate::memory::Memory;
+use crate::plan::Plan;
+use reference::{Loaded, Session};
+
+/// Makes the call, and gives the answer.
+pub fn answer(call: &Call, memory: &mut Memory) -> Answer {
+    let Memory { session, loaded, image, table, buffer } = memory;
+    let (image, table, buffer) = (image.lend(), table.lend(), buffer.lend());
+    let answer = match *call {
+        Call::Needs(ref plan) => needs(plan),
+        Call::Open(ref plan) => {
+            let opened = open(plan, image, table);
+            *session = opened.clone().unwrap_or_else(|_| Session::refused());
+            opened.map(|_| [0, 0])
+        }
+        Call::Write { task } => {
+            reference::write(session, image, table, task, buffer).map(|()| [0, 0])
+        }
+        Call::Close => reference::close(session, image, table).map(|length| [length, 0]),
+        Call::Load => {
+            let found = reference::load(image, table);
+            *loaded = found.clone().unwrap_or_else(|_| Loaded::refused());
+            found.map(|_| [0, 0])
+        }
+        Call::Chunk { task, chunk } => reference::chunk(loaded, image, table, task, chunk)
+            .map(|part| [offset(part, image), part.len() as u64]),
+        Call::Total { task } => reference::total(loaded, image, table, task).map(|sum| [sum, 0]),
+        Call::Read { task, place } => {
+            reference::read(loaded, image, table, task, place, buffer).map(|copied| [copied, 0])
+        }
+    };
+    match answer {
+        Ok(numbers) => Answer { refusal: 0, numbers },
+        Err(refusal) => Answer { refusal, numbers: [0, 0] },
+    }
+}
+
+/// What an opening needs by the paper's formulas, where the opening is refused only for being lent nothing.
+fn needs(plan: &Plan) -> Result<[u64; 2], u32> {
+    match open(plan, &mut [], &mut []) {
+        Err(18) => Ok([plan.needed_bytes() as u64, plan.needed_cells() as u64]),
+        other => other.map(|_| [0, 0]),
+    }
+}
+
+fn open(plan: &Plan, image: &mut [u8], table: &mut [i64]) -> Result<Session, u32> {
+    let Plan { order, version, patch, blocksize, ref ranks, ref sizes, ref prefix, k, .. } = *plan;
+    reference::open(order, version, patch, blocksize, ranks, sizes, prefix, k, image, table)
+}
+
+/// Where a part of the image starts in it.
+fn offset(part: &[u8], image: &[u8]) -> u64 {
+    (part.as_ptr() as usize - image.as_ptr() as usize) as u64
+}
