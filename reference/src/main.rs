@@ -9,14 +9,15 @@ use std::error::Error;
 use std::io::{stdin, Read};
 use std::path::Path;
 
-const USAGE: &str = "reference check | vectors DIR | random SEED COUNT DIR";
+const USAGE: &str = "reference check | vectors DIR [all] | random SEED COUNT DIR";
 
 fn main() -> Result<(), Box<dyn Error>> {
     let args: Vec<String> = std::env::args().skip(1).collect();
     let words: Vec<&str> = args.iter().map(String::as_str).collect();
     match words[..] {
         ["check"] => check(),
-        ["vectors", dir] => report::save(Path::new(dir), vectors::all()),
+        ["vectors", dir] => report::save(Path::new(dir), vectors::stored()),
+        ["vectors", dir, "all"] => report::save(Path::new(dir), vectors::all()),
         ["random", seed, count, dir] => {
             let containers = random::all(seed.parse()?, count.parse()?);
             report::save(Path::new(dir), containers)
