@@ -1,32 +1,32 @@
--- The closed image of a session is a container that says what the session holds: its META1 and its META2. Assumes nothing.
+-- The closed image of a session is a container that says what the session holds: its META1 and its META2.
 use mathlib.Core.Path.{_≡_, _∙_}
 use mathlib.Core.List.{List}
 use Prim.Native.Nat.{ℕ, _^_, _≤_, _<_}
 use native.Mathlib.Omega.{arith}
 use lib.ListN.{take}
 use lib.Signed.{mag}
-use Rattle.layout.specs.Limits.{maxBlocks}
-use Rattle.layout.specs.Areas.{meta1End}
-use Rattle.layout.proofs.Chunks.{meta2End-small}
-use Rattle.layout.proofs.Power.{blocksize-facts}
-use Rattle.meta.specs.Meta1.{meta1}
-use Rattle.meta.specs.Meta2.{valueIndex}
-use Rattle.meta.specs.Heads.{entry, cell, countOf, isBig}
-use Rattle.meta.proofs.Rules.{valueIndex-lt}
-use Rattle.emit.proofs.Stored
-use Rattle.session.specs.Records.{State}
-use Rattle.session.specs.Open.{Opening, tasks, openHead}
-use Rattle.session.specs.Close
-use Rattle.session.proofs.Openings.{plan-sound}
-use Rattle.container.specs.Format.{InBounds, HasMeta1, HasMeta2, valueOf}
-use Rattle.container.specs.Demands.{VersionsFit, contentsOf}
-use Rattle.container.proofs.Bounds.{in-bounds}
-use Rattle.container.proofs.ClosedParts.{Closable, closedAs, startIn, valueIn, closing, apart, end-after, closed-most}
-use Rattle.container.proofs.ClosedParts.{closed-reached, in-range, not-used, used-small, closed-long, meta1-there, part-there}
+use Rattle.format.specs.Limits.{maxBlocks}
+use Rattle.format.specs.Layout.{meta1End}
+use Rattle.format.proofs.Chunks.{meta2End-small}
+use Rattle.format.proofs.Power.{blocksize-facts}
+use Rattle.format.specs.Meta1.{meta1}
+use Rattle.format.specs.Meta2.{valueIndex}
+use Rattle.format.specs.Record.{entry, cell, countOf, isBig}
+use Rattle.format.proofs.Rules.{valueIndex-lt}
+use Rattle.format.proofs.Stored
+use Rattle.format.specs.Session.{State}
+use Rattle.format.specs.Open.{Opening, tasks, openHead}
+use Rattle.format.specs.Close
+use Rattle.format.proofs.Opening.{plan-sound}
+use Rattle.format.specs.Container.{InBounds, HasMeta1, HasMeta2, valueOf}
+use Rattle.container.specs.Start.{VersionsFit}
+use Rattle.container.specs.WrittenBack.{contentsOf}
+use Rattle.format.proofs.InBounds.{in-bounds}
+use Rattle.container.proofs.ClosedParts.{Closable, closedAs, startIn, valueIn, closing, apart, end-after, closed-most, closed-reached, in-range, not-used, used-small, closed-long, meta1-there, part-there}
 
 module _ (o : Opening) (st : State) (c : Closable o st) (tail : List ℕ) where
   abbrev m : ℕ
-  m = Close.used st
+  m = Close.maxchunksUsed st
 
   few : m ≤ maxBlocks
   few = closing o st c .few
@@ -47,7 +47,7 @@ module _ (o : Opening) (st : State) (c : Closable o st) (tail : List ℕ) where
       record {
         bounds = bounds;
         long = omega (arith, closed-long o st c tail, apart o st c, end-after o st c);
-        marked = Stored.mark-back _ _ _ _ _ _ _ short stored;
+        magic-is = Stored.magic-back _ _ _ _ _ _ _ short stored;
         order-is = Stored.order-back _ _ _ _ _ _ _ short stored;
         version-is = Stored.version-back _ _ _ _ _ _ _ short stored (fit .0);
         patch-is = Stored.patch-back _ _ _ _ _ _ _ short stored (fit .1);

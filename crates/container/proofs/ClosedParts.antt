@@ -1,5 +1,4 @@
--- What closing leaves of a session, by what its opening was given: META1 and META2 in the image, and the counts and cells that META2
--- holds. Assumes nothing.
+-- What closing leaves of a session, by what its opening was given: META1 and META2 in the image, and the counts and cells that META2 holds.
 use mathlib.Core.Path.{_≡_, refl, sym, ap, ap₂, _∙_, subst}
 use mathlib.Core.Bool.{true}
 use mathlib.Core.List.{List, _++_}
@@ -11,27 +10,29 @@ use lib.IntN.{ℤ}
 use lib.ListN.{length, take, drop, getD, length-append}
 use lib.Seq.{length-take-le, take-add}
 use Rattle.endian.specs.Signed.{natural}
-use Rattle.endian.proofs.Below.{part-cong}
+use Rattle.lists.proofs.Below.{part-cong}
 use Rattle.endian.proofs.Signed.{InRange, within-natural}
-use Rattle.endian.proofs.Splice.{part-front}
-use Rattle.layout.specs.Limits.{maxSize}
-use Rattle.layout.specs.Areas.{meta1End, capacity, meta2Start, meta2Length, meta2End}
-use Rattle.layout.proofs.Bounds.{sound-size}
-use Rattle.layout.proofs.Chunks.{meta1-before-data, capacity-small}
-use Rattle.layout.proofs.Power.{blocksize-facts}
-use Rattle.meta.specs.declared.head.Head.{Head}
-use Rattle.meta.specs.Meta1.{lastAt, lastFields, meta1Front, meta1}
-use Rattle.meta.specs.Meta2.{valueIndex, unused, valuesRule, meta2}
-use Rattle.meta.specs.Heads.{entry, cell, sizeOf, countOf, isBig, holds, meta2At, endAt, cellsAgree}
-use Rattle.meta.proofs.Rules.{values-used, values-unused}
-use Rattle.session.specs.Records.{State}
-use Rattle.session.specs.Open.{Opening, tasks, openHead}
-use Rattle.session.specs.Close.{used, closeRefusal, closeAnswer, closeImage}
-use Rattle.session.proofs.Openings.{PlanHolds, plan-sound}
-use Rattle.session.proofs.Sessions.{StateHolds, state-holds}
-use Rattle.session.proofs.Closings.{Closes, closes}
-use Rattle.container.specs.Format.{partOf}
-use Rattle.container.specs.Demands.{CloseStores, contentsOf}
+use Rattle.lists.proofs.Splice.{part-front}
+use Rattle.format.specs.Limits.{maxSize}
+use Rattle.format.specs.Layout.{meta1End, capacity, meta2Start, meta2Length, meta2End}
+use Rattle.format.proofs.Bounds.{sound-size}
+use Rattle.format.proofs.Chunks.{meta1-before-data, capacity-small}
+use Rattle.format.proofs.Power.{blocksize-facts}
+use Rattle.format.specs.declared.head.Head.{Head}
+use Rattle.format.specs.Meta1.{lastAt, lastFields, meta1Front, meta1}
+use Rattle.format.specs.Meta2.{valueIndex, unused, valuesRule, meta2}
+use Rattle.format.specs.Record.{entry, cell, sizeOf, countOf, isBig, holds, meta2At, endAt, cellsAgree}
+use Rattle.format.proofs.Rules.{values-used, values-unused}
+use Rattle.format.specs.Session.{State}
+use Rattle.format.specs.Open.{Opening, tasks, openHead}
+use Rattle.format.specs.Close.{maxchunksUsed, closeRefusal, closeAnswer, closeImage}
+use Rattle.format.proofs.Opening.{PlanHolds, plan-sound}
+use Rattle.format.specs.Passed.{Passed}
+use Rattle.format.proofs.Passing.{passed-used}
+use Rattle.format.proofs.Sessions.{session-passed}
+use Rattle.format.specs.Container.{meta2Said}
+use Rattle.container.specs.Format.{CloseStores}
+use Rattle.container.specs.WrittenBack.{contentsOf}
 use Rattle.container.proofs.Refusing.{close-number}
 use Rattle.container.proofs.Stores.{close-stores}
 
@@ -49,17 +50,17 @@ closedAs st tail = take (closeAnswer st .length) (closeImage st) ++ tail
 
 -- where META2 starts and ends in it, and the cell of chunk k + 1 of task i + 1
 abbrev pub startIn : Opening → State → ℕ
-startIn o st = meta2Start (o .plan .blocksize) (tasks o) (entry (o .sizes)) (used st)
+startIn o st = meta2Start (o .plan .blocksize) (tasks o) (entry (o .sizes)) (maxchunksUsed st)
 
 abbrev pub endIn : Opening → State → ℕ
-endIn o st = meta2End (o .plan .blocksize) (tasks o) (entry (o .sizes)) (used st)
+endIn o st = meta2End (o .plan .blocksize) (tasks o) (entry (o .sizes)) (maxchunksUsed st)
 
 abbrev pub valueIn : Opening → State → ℕ → ℕ → ℤ
 valueIn o st k i = cell (st .table) (valueIndex (tasks o) k i)
 
 module _ (o : Opening) (st : State) (c : Closable o st) where
   abbrev m : ℕ
-  m = used st
+  m = maxchunksUsed st
 
   abbrev at : ℕ
   at = startIn o st
@@ -67,12 +68,9 @@ module _ (o : Opening) (st : State) (c : Closable o st) where
   abbrev end : ℕ
   end = endIn o st
 
-  state : StateHolds st
+  pub closing : Passed (st .session .head) (st .lists) m (st .image) (st .table)
   unfolding closeRefusal
-  state = state-holds st (c .passes)
-
-  pub closing : Closes st
-  closing = closes st state
+  closing = passed-used (session-passed st (c .passes))
 
   stores : CloseStores st m
   stores = close-stores st (close-number st ∙ c .passes)
@@ -156,10 +154,10 @@ module _ (o : Opening) (st : State) (c : Closable o st) where
 
   -- ---- the cells, by what the opening was given
 
-  agree : valuesRule (tasks o) (st .session .planned) (holds (openHead o) (entry (o .sizes))) (countOf (st .lists)) (cell (st .table)) ≡ true
+  agree : valuesRule (tasks o) m (holds (openHead o) (entry (o .sizes))) (countOf (st .lists)) (cell (st .table)) ≡ true
   unfolding cellsAgree openHead
   agree =
-      by-opening (λ h size. valuesRule (h .n) (st .session .planned) (holds h size) (countOf (st .lists)) (cell (st .table)) ≡ true) (state .agree)
+      by-opening (λ h size. valuesRule (h .n) m (holds h size) (countOf (st .lists)) (cell (st .table)) ≡ true) (closing .agree)
 
   pub closed-most : (i : ℕ) → i < tasks o → countOf (st .lists) i ≤ m
   closed-most i l = stores .most i (rw tasks-are l)
@@ -171,11 +169,10 @@ module _ (o : Opening) (st : State) (c : Closable o st) where
       → InRange 0 (capacity (o .plan .blocksize) (entry (o .sizes) i)) (valueIn o st k i)
   unfolding openHead holds
   in-range i k l u =
-      let there : k < st .session .planned = omega (arith, closed-most i l, closing .planned) in
-      within-natural 0 _ (valueIn o st k i) (values-used (tasks o) (st .session .planned) _ _ _ agree i k l there u)
+      within-natural 0 _ (valueIn o st k i) (values-used (tasks o) m _ _ _ agree i k l (omega (arith, closed-most i l)) u)
 
   pub not-used : (i k : ℕ) → i < tasks o → countOf (st .lists) i ≤ k → k < m → valueIn o st k i ≡ unused
-  not-used i k l u h = values-unused (tasks o) (st .session .planned) _ _ _ agree i k l (omega (arith, closing .planned)) u
+  not-used i k l u h = values-unused (tasks o) m _ _ _ agree i k l h u
 
   pub used-small : (i k : ℕ) → i < tasks o → k < countOf (st .lists) i → natural (valueIn o st k i) ≤ maxSize
   used-small i k l u =
@@ -196,5 +193,5 @@ module _ (o : Opening) (st : State) (c : Closable o st) where
     pub meta1-there : take (meta1End (tasks o)) (closedAs st tail) ≡ meta1 (openHead o) (entry (o .ranks)) (entry (o .sizes)) (o .prefix) m at
     meta1-there = same-part 0 (meta1End (tasks o)) (omega (arith, apart, end-after)) ∙ first-there
 
-    pub part-there : partOf (closedAs st tail) (contentsOf o st) ≡ values (openHead o)
+    pub part-there : meta2Said (closedAs st tail) (contentsOf o st) ≡ values (openHead o)
     part-there = same-part at (meta2Length (tasks o) m) (omega (arith, end-after)) ∙ second-there

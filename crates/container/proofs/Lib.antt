@@ -1,15 +1,11 @@
-pub mod Numbers
-pub mod Bounds
-pub mod Judging
 pub mod Refusing
 pub mod Opens
-pub mod Only
-pub mod Every
 pub mod ReadsBack
 pub mod Stores
 pub mod ClosedParts
 pub mod Closed
+pub mod Starts
 pub mod WrittenBack
 pub mod Rooms
 pub mod Finished
-pub mod Demands
+pub mod Main

@@ -1,5 +1,5 @@
--- What is read of a container, with the record and the table that loading handed back, is what the container says, and what is
--- refused gets its own number. Assumes nothing.
+-- What is read of a container, with the record and the table that loading handed back, is what the container says, and what is refused gets its
+-- own number.
 use mathlib.Core.Path.{_≡_, refl, sym, ap, ap₂, _∙_}
 use mathlib.Core.Bool.{true, false, and-false}
 use mathlib.Core.List.{List}
@@ -11,30 +11,29 @@ use borrow.Author.Tests.{lt-ltb, le-ltb, lt-leb}
 use lib.IntN.{ℤ, pos}
 use lib.ListN.{length, take, drop}
 use Rattle.endian.specs.Signed.{within, natural}
-use Rattle.endian.specs.Splice.{splice}
-use Rattle.endian.proofs.Below.{sum-cong, join-cong}
+use Rattle.lists.specs.Splice.{splice}
+use Rattle.lists.proofs.Below.{sum-cong, join-cong}
 use Rattle.endian.proofs.Signed.{within-holds}
-use Rattle.meta.specs.Refusals.{firstFailing}
-use Rattle.meta.specs.Meta2.{valueIndex, unused}
-use Rattle.meta.specs.Heads.{cell, rankOf, sizeOf, countOf, startOf, endAt, headSound, cellsAgree}
-use Rattle.meta.proofs.Refusals.{first-passes, first-fails, when-accepted}
-use Rattle.meta.proofs.Rules.{values-agree}
-use Rattle.meta.proofs.Stripes.{length-lists, rank-made, size-made, count-made}
-use Rattle.meta.proofs.Heads.{order-sound, holds-agree, startOf-agree, endAt-agree}
-use Rattle.reading.specs.declared.record.Loaded.{Loaded}
-use Rattle.reading.specs.Records.{loadedSound, loadedOf}
-use Rattle.container.specs.Format.{Contents, HasMeta1, HasMeta2}
-use Rattle.reading.specs.Load.{loadRefusal, loadAnswer, loadTable}
-use Rattle.reading.specs.Reads.{Container, containerOf, ReadAllowed, loadedTests, readTests, used, writtenIn, chunkBytes, chunkRefusal, chunkPart}
-use Rattle.reading.specs.Reads.{streamOf, totalOf, totalAnswer, readRefusal, readAnswer, readOutput}
-use Rattle.container.specs.Demands.{loadedFrom, bytesSaid, streamSaid, totalSaid, Says, ReadsBack, RefusesBack}
-use Rattle.container.proofs.Bounds.{block-kept, tasks-kept, ranks-kept, sizes-kept}
-use Rattle.container.proofs.Every.{headSaid, listsSaid, few, maxchunks-kept, counts-kept, values-kept}
-use Rattle.container.proofs.Every.{loaded-is, lists-are, room, says}
+use Rattle.format.specs.Refusals.{firstFailing}
+use Rattle.format.specs.Meta2.{valueIndex, unused}
+use Rattle.format.specs.Record.{cell, rankOf, sizeOf, countOf, startOf, endAt, headSound, cellsAgree}
+use Rattle.format.proofs.Refusals.{first-passes, first-fails, when-accepted}
+use Rattle.format.proofs.Rules.{values-agree}
+use Rattle.format.proofs.Stripes.{length-lists, rank-made, size-made, count-made}
+use Rattle.format.proofs.Record.{order-sound, holds-agree, startOf-agree, endAt-agree}
+use Rattle.format.specs.declared.loaded.Loaded.{Loaded}
+use Rattle.format.specs.Loaded.{loadedSound, loadedOf}
+use Rattle.format.specs.Container.{Contents, HasMeta1, HasMeta2, Says}
+use Rattle.format.specs.Load.{loadRefusal, loadAnswer, loadTable}
+use Rattle.format.specs.Reads.{Container, containerOf, loadedTests, readTests, chunksUsed, writtenIn, chunkBytes, chunkRefusal, chunkPart, streamOf, totalOf, totalAnswer, readRefusal, readAnswer, readOutput, loadedFrom}
+use Rattle.container.specs.Format.{bytesSaid, streamSaid, totalSaid, ReadsBack, RefusesBack}
+use Rattle.format.proofs.InBounds.{block-kept, tasks-kept, ranks-kept, sizes-kept}
+use Rattle.format.proofs.Every.{headSaid, listsSaid, few, maxchunks-kept, counts-kept, values-kept, loaded-is, lists-are, room, says}
 use Rattle.container.proofs.Refusing.{total-number, read-number}
-use Rattle.meta.proofs.Records.{record-passes}
-use Rattle.reading.proofs.Readable.{loaded-numbered, read-numbered, readable}
-use Rattle.reading.proofs.Stream.{chunk-length, chunk-allowed, counted}
+use Rattle.format.proofs.Passing.{record-passes}
+use Rattle.format.proofs.LoadedRecords.{loaded-numbered}
+use Rattle.format.proofs.Readable.{read-numbered, readable}
+use Rattle.format.proofs.Stream.{chunk-length, chunk-passes, counted}
 
 -- a number counted from 1 that is 0 or past the last
 within-none : (n number : ℕ) → (number ≡ 0) ⊎ (n < number) → within 1 n (pos number) ≡ false
@@ -84,13 +83,8 @@ module _ (image : List ℕ) (s : Contents) (one : HasMeta1 image s) (two : HasMe
   loaded-passes : firstFailing (loadedTests loaded) ≡ 0
   unfolding loadedTests endAt
   loaded-passes =
-      record-passes 0 (loadedSound made (listsSaid s)) (headSaid s) (listsSaid s) (s .maxchunks) image table (record {
-        unmarked = refl;
-        sound-is = loaded-sound;
-        image-long = rw (endAt-agree (headSaid s) (sizeOf (listsSaid s)) (s .size) size-is (s .maxchunks)) (two .fits);
-        table-long = wide;
-        agree = cells-agree;
-      })
+      record-passes 0 (loadedSound made (listsSaid s)) (headSaid s) (listsSaid s) (s .maxchunks) image table refl loaded-sound
+      (rw (endAt-agree (headSaid s) (sizeOf (listsSaid s)) (s .size) size-is (s .maxchunks)) (two .fits)) wide cells-agree
 
   module _ (i : ℕ) (l : i < s .n) where
     passes : firstFailing (readTests loaded (i + 1)) ≡ 0
@@ -99,13 +93,10 @@ module _ (image : List ℕ) (s : Contents) (one : HasMeta1 image s) (two : HasMe
         first-passes (loadedTests loaded) _ (loaded-numbered loaded) loaded-passes
         ∙ rw (within-holds 1 (s .n) (i + 1) (omega arith) (omega arith))
 
-    allowed : ReadAllowed loaded (i + 1)
-    allowed = record { as-many = length-lists (s .n) (s .rank) (s .size) (s .count); passes = passes }
-
     -- ---- what is read is what the container says
 
-    used-is : used loaded (i + 1) ≡ s .count i
-    unfolding used
+    used-is : chunksUsed loaded (i + 1) ≡ s .count i
+    unfolding chunksUsed
     used-is = rw (add-sub-cancel i 1) (count-is i l)
 
     written-is : (k : ℕ) → k < s .count i → writtenIn loaded (i + 1) (k + 1) ≡ s .written k i
@@ -126,12 +117,12 @@ module _ (image : List ℕ) (s : Contents) (one : HasMeta1 image s) (two : HasMe
     unfolding totalOf totalSaid
     total-is = rw used-is (sum-cong _ _ (s .count i) written-is)
 
-    chunk-passes : (k : ℕ) → k < s .count i → chunkRefusal loaded (i + 1) (k + 1) ≡ 0
-    chunk-passes k u = chunk-allowed loaded (i + 1) (k + 1) allowed (omega arith) (rw used-is (omega arith)) .passes
+    each-passes : (k : ℕ) → k < s .count i → chunkRefusal loaded (i + 1) (k + 1) ≡ 0
+    each-passes k u = chunk-passes loaded (i + 1) (k + 1) passes (omega arith) (rw used-is (omega arith))
 
     chunk-whole : (k : ℕ) → k < s .count i → length (bytesSaid image s i k) ≡ s .written k i
     chunk-whole k u =
-        let r = readable loaded (i + 1) allowed in
+        let r = readable loaded (i + 1) (length-lists (s .n) (s .rank) (s .size) (s .count)) passes in
         ap length (sym (bytes-are k u)) ∙ chunk-length loaded (i + 1) r k (rw used-is u) ∙ written-is k u
 
     read-passes : (p : ℕ) → p ≤ totalSaid s i → readRefusal loaded (i + 1) p ≡ 0
@@ -143,8 +134,8 @@ module _ (image : List ℕ) (s : Contents) (one : HasMeta1 image s) (two : HasMe
   made-reads : ReadsBack image s loaded
   unfolding chunkPart totalAnswer readAnswer readOutput
   made-reads = record {
-    chunks = λ i k l u. chunk-passes i l k u;
-    parts = λ i k l u. when-accepted _ _ _ (chunk-passes i l k u) ∙ bytes-are i l k u;
+    chunks = λ i k l u. each-passes i l k u;
+    parts = λ i k l u. when-accepted _ _ _ (each-passes i l k u) ∙ bytes-are i l k u;
     whole = λ i k l u. chunk-whole i l k u;
     totals = λ i l. when-accepted _ _ _ (passes i l) ∙ ap (counted 0) (total-is i l);
     copied = λ i p out l h. when-accepted _ _ _ (read-passes i l p h) ∙ ap (λ (t : ℕ). counted 0 (min (length out) (t - p))) (total-is i l);

@@ -1,137 +1,148 @@
--- Demand 3: from every accepted opening, a task can count on its room, over every list of writes. Assumes nothing.
+-- Demand 3: from every start, a task can count on its room, over every list of writes.
 use mathlib.Core.Path.{_≡_, refl, sym, ap, subst, _∙_}
 use mathlib.Core.List.{List, [], _∷_, _++_}
-use Prim.Native.Nat.{ℕ, _+_, _*_, _<_}
-use native.Mathlib.Nat.{zero-add}
+use Prim.Native.Nat.{ℕ, _+_, _-_, _*_, _<_}
 use native.Mathlib.Omega.{arith}
-use lib.IntN.{ℤ}
 use lib.ListN.{length, getD}
-use Rattle.meta.specs.Meta2.{valueIndex}
-use Rattle.meta.specs.Heads.{entry, cell, endAt}
-use Rattle.session.specs.Records.{State}
-use Rattle.session.specs.Open.{Opening, tasks, openRefusal, openHead, openSession, opened}
-use Rattle.session.specs.Write.{Request, writeRefusal, afterWrite, writes, refusals}
-use Rattle.room.specs.Tally.{Plan, Book, planOf, blank, askOf, asks, answers, fateIn, answerTo, told, toldAll, held}
-use Rattle.room.proofs.Share.{Good, good-blank, good-all, refused-full, at-most, alone}
-use Rattle.room.proofs.Places.{Layout, sane-blank, imageAfter, length-after, placed, others, own-blocks}
-use Rattle.room.proofs.Follows.{planIn, Follows, Runs}
-use Rattle.room.proofs.Steps.{cells-kept, runs, step}
-use Rattle.room.proofs.Middle.{answer-at, held-before, after-last, told-last}
-use Rattle.room.proofs.Opened.{plan-is, opened-follows, opened-layout}
-use Rattle.container.specs.Demands.{begunBy, Answers, Placed, Kept, Room}
-use Rattle.container.proofs.Refusing.{open-number}
+use Rattle.format.specs.Meta2.{valueIndex}
+use Rattle.format.specs.Record.{entry, cell, endAt}
+use Rattle.format.specs.Open.{Opening, tasks, openHead, openSession}
+use Rattle.format.specs.Write.{Request, writeRefusal, afterWrite}
+use Rattle.format.specs.Tally.{Terms, Tallies, termsOf, fedOf, fed, answers, outcomeIn, answerTo, feed, feedAll, held, Fed}
+use Rattle.tally.proofs.Share.{ShareInvariant, reachable-all, share-all, refused-full, at-most, alone}
+use Rattle.tally.proofs.Places.{Layout, imageAfter, length-after, placed, others, own-blocks}
+use Rattle.tally.specs.Simulates.{Reachable, AllReachable, termsIn, Simulates}
+use Rattle.tally.proofs.Simulating.{RunSimulates}
+use Rattle.tally.proofs.Steps.{cells-kept, run-simulates, step-simulates, passes}
+use Rattle.tally.proofs.Middle.{answer-at, held-before, after-last, feed-last}
+use Rattle.tally.proofs.Opened.{terms-are, planned-layout}
+use Rattle.container.specs.Start.{Start, IsStart, after, answersTo, bookAfter, begunBy}
+use Rattle.container.specs.Room.{Answers, Placed, Kept, Claim, Alike}
+use Rattle.format.proofs.InBounds.{block-kept}
 
-module _ (o : Opening) (image : List ℕ) (table : List ℤ) (zero : openRefusal o (length image) (length table) ≡ 0) where
-  abbrev start : State
-  start = opened o image table
+module _ (s : Start) (is : IsStart s) where
+  abbrev o : Opening
+  o = s .plan
 
-  same : planIn (openSession o) (entry (o .sizes)) ≡ planOf o
-  same = sym (plan-is o image table zero)
+  abbrev size : ℕ → ℕ
+  size = entry (o .sizes)
 
-  first : Follows (openSession o) (entry (o .sizes)) blank start
-  first = opened-follows o image table zero
+  -- the tally is fed the same of the record and of the plan
+  same : termsIn (openSession o) size ≡ termsOf o
+  same = sym (terms-are o)
+
+  layout : Layout (o .plan .blocksize) (endAt (openHead o) size (o .plan .planned)) (termsOf o)
+  layout = planned-layout o (block-kept (is .good .bounds))
+
+  all-reachable : AllReachable (termsOf o) (s .book)
+  all-reachable task = (_, is .reachable task)
 
   module _ (qs : List Request) where
-    run : Runs (openSession o) (entry (o .sizes)) blank start qs
-    run = runs first qs
+    run : RunSimulates (openSession o) size (s .book) (s .state) qs
+    run = run-simulates (is .follows) qs
 
-    as-tally : refusals start qs ≡ answers (planOf o) blank (asks qs)
-    as-tally = run .numbers-are ∙ ap (λ (p : Plan). answers p blank (asks qs)) same
+    as-tally : answersTo s qs ≡ answers (termsOf o) (s .book) (fed qs)
+    as-tally = run .numbers-are ∙ ap (λ (p : Terms). answers p (s .book) (fed qs)) same
 
-    -- what a task holds, and its tally
-    good : (task : ℕ) → Good (o .plan .planned) (planOf o .c task) (toldAll (planOf o) blank (asks qs) task) (held task (asks qs) (refusals start qs))
-    good task =
-        rw (zero-add, ← as-tally) at (good-all (planOf o) task (asks qs) blank 0 (good-blank (o .plan .planned) (planOf o .c task)))
+    -- what a task holds, and what it was given since the start, by its tally
+    reached : (task : ℕ)
+        → Reachable (o .plan .planned) (termsOf o .c task) (bookAfter s qs task) (length (s .bytes task) + held task (fed qs) (answersTo s qs))
+    reached task = rw as-tally (reachable-all (termsOf o) task (fed qs) (s .book) (length (s .bytes task)) (is .reachable task))
 
-    last : Follows (openSession o) (entry (o .sizes)) (toldAll (planOf o) blank (asks qs)) (writes start qs)
+    shared : (task : ℕ)
+        → ShareInvariant (termsOf o .c task) (s .book task .u) (bookAfter s qs task) (held task (fed qs) (answersTo s qs))
+    shared task = rw as-tally (share-all (termsOf o) task (fed qs) (s .book) (is .reachable task .last))
+
+    last : Simulates (openSession o) size (bookAfter s qs) (after s qs)
     last = rw same at (run .follows)
 
-    next-number : (q : Request) → writeRefusal (writes start qs) q ≡ answerTo (fateIn (planOf o) (toldAll (planOf o) blank (asks qs)) (askOf q))
+    next-number : (q : Request) → writeRefusal (after s qs) q ≡ answerTo (outcomeIn (termsOf o) (bookAfter s qs) (fedOf q))
     next-number q =
-        step (run .follows) q .number-is
-        ∙ ap (λ (p : Plan). answerTo (fateIn p (toldAll p blank (asks qs)) (askOf q))) same
+        step-simulates (run .follows) q .number-is
+        ∙ ap (λ (p : Terms). answerTo (outcomeIn p (feedAll p (s .book) (fed qs)) (fedOf q))) same
 
     next-cells : (q : Request) → (i k : ℕ) → i < tasks o
-        → (q .task ≡ i + 1 → k + 1 ≡ told (planOf o) (toldAll (planOf o) blank (asks qs)) (askOf q) (i + 1) .u → ⊥)
-        → cell (afterWrite (writes start qs) q .table) (valueIndex (tasks o) k i) ≡ cell (writes start qs .table) (valueIndex (tasks o) k i)
+        → (q .task ≡ i + 1 → k + 1 ≡ feed (termsOf o) (bookAfter s qs) (fedOf q) (i + 1) .u → ⊥)
+        → cell (afterWrite (after s qs) q .table) (valueIndex (tasks o) k i) ≡ cell (after s qs .table) (valueIndex (tasks o) k i)
     unfolding openSession openHead
     next-cells q i k l d =
-        cells-kept last q i k l (λ e u. d e (u ∙ ap (λ (p : Plan). told p (toldAll (planOf o) blank (asks qs)) (askOf q) (i + 1) .u) same))
+        cells-kept last q i k l (λ e u. d e (u ∙ ap (λ (p : Terms). feed p (bookAfter s qs) (fedOf q) (i + 1) .u) same))
 
   -- ---- a request in the middle of a list
 
-  module _ (before after : List Request) (q : Request) where
-    full-at : getD (refusals start (before ++ (q ∷ after))) (length before) 0 ≡ 16
-        → o .plan .planned * planOf o .c (q .task)
-        < 2 * (held (q .task) (asks before) (refusals start (before ++ (q ∷ after))) + length (q .bytes))
+  module _ (before rest : List Request) (q : Request) where
+    full-at : getD (answersTo s (before ++ (q ∷ rest))) (length before) 0 ≡ 16
+        → (o .plan .planned - s .book (q .task) .u) * termsOf o .c (q .task)
+        < 2 * (held (q .task) (fed before) (answersTo s (before ++ (q ∷ rest))) + length (q .bytes))
     full-at e =
-        rw (held-before (q .task) start before (q ∷ after))
-        (refused-full (planOf o) (askOf q) _ _ (good before (q .task)) (sym (next-number before q) ∙ sym (answer-at start before after q) ∙ e))
+        rw (held-before (q .task) (s .state) before (q ∷ rest))
+        (refused-full (termsOf o) _ (fedOf q) _ _ (shared before (q .task))
+        (sym (next-number before q) ∙ sym (answer-at (s .state) before rest q) ∙ e))
 
-    cells-at : (i k : ℕ) → i < tasks o → (q .task ≡ i + 1 → k + 1 ≡ begunBy o (before ++ (q ∷ [])) i → ⊥)
-        → cell (writes start (before ++ (q ∷ [])) .table) (valueIndex (tasks o) k i) ≡ cell (writes start before .table) (valueIndex (tasks o) k i)
+    cells-at : (i k : ℕ) → i < tasks o → (q .task ≡ i + 1 → k + 1 ≡ begunBy s (before ++ (q ∷ [])) i → ⊥)
+        → cell (after s (before ++ (q ∷ [])) .table) (valueIndex (tasks o) k i) ≡ cell (after s before .table) (valueIndex (tasks o) k i)
     cells-at i k l d =
-        rw (after-last start before q)
-        (next-cells before q i k l (λ e u. d e (u ∙ ap (λ (b : Book). b (i + 1) .u) (sym (told-last (planOf o) blank before q)))))
+        rw (after-last (s .state) before q)
+        (next-cells before q i k l (λ e u. d e (u ∙ ap (λ (b : Tallies). b (i + 1) .u) (sym (feed-last (termsOf o) (s .book) before q)))))
 
   -- ---- the whole list
 
   module _ (qs : List Request) where
-    answers-hold : Answers o start qs
+    answers-hold : Answers s qs
     answers-hold = record {
       as-tally = as-tally qs;
-      alone = λ task. rw (as-tally qs) (alone (planOf o) task (asks qs) blank blank refl);
-      least-share = λ before after q e.
+      alone = λ task. rw (as-tally qs) (alone (termsOf o) task (fed qs) (s .book) (s .book) refl);
+      least-share = λ before rest q e.
           subst (λ (l : List Request).
-          getD (refusals start l) (length before) 0 ≡ 16
-          → o .plan .planned * planOf o .c (q .task) < 2 * (held (q .task) (asks before) (refusals start l) + length (q .bytes)))
-          (sym e) (full-at before after q);
-      most = λ task. at-most (good qs task);
+          getD (answersTo s l) (length before) 0 ≡ 16
+          → (o .plan .planned - s .book (q .task) .u) * termsOf o .c (q .task)
+          < 2 * (held (q .task) (fed before) (answersTo s l) + length (q .bytes)))
+          (sym e) (full-at before rest q);
+      most = λ task. at-most (reached qs task);
     }
 
     -- ---- the bytes
 
-    image-is : writes start qs .image ≡ imageAfter (planOf o) blank (start .image) qs
-    image-is = run qs .image-is ∙ ap (λ (p : Plan). imageAfter p blank (start .image) qs) same
+    image-is : after s qs .image ≡ imageAfter (termsOf o) (s .book) (s .state .image) qs
+    image-is = run qs .image-is ∙ ap (λ (p : Terms). imageAfter p (s .book) (s .state .image) qs) same
 
-    layout : Layout (o .plan .blocksize) (endAt (openHead o) (entry (o .sizes)) (o .plan .planned)) (planOf o)
-    layout = opened-layout o image table zero
-
-    placed-hold : Placed o start qs
+    placed-hold : Placed s qs
     unfolding openSession openHead
     placed-hold = record {
-      lands = λ l. rw image-is (placed _ _ (planOf o) layout (start .image) (first .image-long) (sane-blank (planOf o)) l);
-      others = λ at none. rw image-is (others _ _ (planOf o) layout qs blank (start .image) at (first .image-long) (sane-blank (planOf o)) none);
-      as-long = rw image-is (length-after _ _ (planOf o) layout qs blank (start .image) (first .image-long) (sane-blank (planOf o)));
-      own-blocks = λ l l′ e. own-blocks _ _ (planOf o) layout (sane-blank (planOf o)) l l′ e;
+      placed-at = λ l. rw image-is (placed _ _ (termsOf o) layout (s .state .image) (is .follows .image-long) all-reachable l);
+      others = λ at none. rw image-is (others _ _ (termsOf o) layout qs (s .book) (s .state .image) at (is .follows .image-long) all-reachable none);
+      as-long = rw image-is (length-after _ _ (termsOf o) layout qs (s .book) (s .state .image) (is .follows .image-long) all-reachable);
+      own-blocks = λ l l′ e. own-blocks _ _ (termsOf o) layout all-reachable l l′ e;
     }
 
     -- ---- the record and the table
 
-    kept-hold : Kept o start qs
+    kept-hold : Kept s qs
     unfolding openSession openHead
     kept-hold = record {
-      session = last qs .session-is ∙ sym (first .session-is);
+      session = last qs .session-is ∙ sym (is .follows .session-is);
       counts = λ i l. last qs .counts-are i l;
       other-entries = run qs .other-entries;
-      lists-as-long = last qs .as-many ∙ sym (first .as-many);
-      last-cells = λ i k l e. last qs .cells-are i k l (omega (arith, e, good qs (i + 1) .most)) .last e;
+      lists-as-long = last qs .as-many ∙ sym (is .follows .as-many);
+      last-cells = λ i k l e. last qs .cells-are i k l (omega (arith, e, reached qs (i + 1) .most)) .last e;
       later-cells = λ i k l e m. last qs .cells-are i k l m .none e;
-      next-cells = λ before after q e i k l d. cells-at before after q i k l d;
+      next-cells = λ before rest q e i k l d. cells-at before rest q i k l d;
       other-cells = run qs .other-cells;
       as-many = run qs .table-as-long;
     }
 
-pub room : (o : Opening) (image : List ℕ) (table : List ℤ) → openRefusal o (length image) (length table) ≡ 0 → Room o image table
-room o image table zero = record {
-  claimed = λ qs. record {
-    answered = answers-hold o image table zero qs;
-    placed = placed-hold o image table zero qs;
-    kept = kept-hold o image table zero qs;
-  };
-  alike = λ image′ table′ accepted qs qs′ task e.
-      let zero′ = sym (open-number o image′ table′) ∙ accepted in
-      answers-hold o image table zero qs .alone task
-      ∙ ap (answers (planOf o) blank) e
-      ∙ sym (answers-hold o image′ table′ zero′ qs′ .alone task);
+pub room : (s : Start) → IsStart s → (qs : List Request) → Claim s qs
+room s is qs = record {
+  answered = answers-hold s is qs;
+  placed = placed-hold s is qs;
+  kept = kept-hold s is qs;
+  alive = passes (last s is qs);
 }
+
+pub alike : (s t : Start) → IsStart s → IsStart t → s .plan ≡ t .plan → s .book ≡ t .book → Alike s t
+alike s t is it e d qs qs′ task own =
+    answers-hold s is qs .alone task ∙ ap₃ answers (ap termsOf e) d own ∙ sym (answers-hold t it qs′ .alone task)
+  where
+    ap₃ : (f : Terms → Tallies → List Fed → List ℕ) {p p′ : Terms} {b b′ : Tallies} {l l′ : List Fed} → p ≡ p′ → b ≡ b′ → l ≡ l′
+        → f p b l ≡ f p′ b′ l′
+    ap₃ f x y z = cc (x, y, z)

@@ -1,4 +1,4 @@
--- What any accepted opening and any accepted close store is what the format asks for, and no other byte or cell moves. Assumes nothing.
+-- What any accepted opening and any accepted close store is what the format asks for, and no other byte or cell moves.
 use mathlib.Core.Path.{_≡_, refl, sym, ap, _∙_}
 use mathlib.Core.List.{List, _++_}
 use mathlib.Core.Logic.{_⊎_, inl, inr, ⊎-elim}
@@ -7,30 +7,31 @@ use native.Mathlib.Nat.{zero-add}
 use native.Mathlib.Omega.{arith}
 use lib.IntN.{ℤ}
 use lib.ListN.{length, take, drop, getD, replicate, length-replicate}
-use Rattle.endian.specs.Splice.{splice}
-use Rattle.endian.proofs.Below.{greatest-at, greatest-ge}
-use Rattle.endian.proofs.Splice.{length-splice, splice-here, splice-after, splice-first, splice-rest, getD-splice-out}
-use Rattle.layout.specs.Areas.{meta1End, dataStart, meta2Start, meta2Length, meta2End}
-use Rattle.layout.proofs.Chunks.{meta1-before-data}
-use Rattle.layout.proofs.Power.{blocksize-facts}
-use Rattle.meta.specs.declared.head.Head.{Head}
-use Rattle.meta.specs.Meta1.{lastAt, lastFields, meta1, openingBytes}
-use Rattle.meta.specs.Meta2.{unused, meta2}
-use Rattle.meta.specs.Heads.{entry, cell, sizeOf, countOf, isBig, meta2At, endAt}
-use Rattle.meta.proofs.Refusals.{when-accepted}
-use Rattle.meta.proofs.Records.{head-tasks, head-block}
-use Rattle.emit.proofs.Stored.{length-last, length-opening, length-meta2}
-use Rattle.session.specs.declared.record.Session.{Session}
-use Rattle.session.specs.declared.record.Closed.{Closed}
-use Rattle.session.specs.Records.{State, marked}
-use Rattle.session.specs.Open.{Opening, tasks, openRefusal, openHead, openSession, openLists, openAnswer, openImage}
-use Rattle.session.specs.Close.{maxchunksOf, used, closeRefusal, finished, closedImage, closeAnswer, closeImage}
-use Rattle.session.proofs.Openings.{OpeningHolds, opening-holds, opening-data, opened-session, opened-lists, opened-image, opened-table}
-use Rattle.session.proofs.Sessions.{StateHolds, state-holds}
-use Rattle.session.proofs.Closings.{Closes, closes}
-use Rattle.container.specs.Demands.{Begun, OpeningStores, CloseStores, Ended, afterClose}
-use Rattle.container.proofs.Refusing.{open-number, close-number, marked-ends}
-use Rattle.container.proofs.Every.{lists-hold}
+use Rattle.lists.specs.Splice.{splice}
+use Rattle.lists.proofs.Below.{greatest-at}
+use Rattle.lists.proofs.Splice.{length-splice, splice-here, splice-after, splice-first, splice-rest, getD-splice-out}
+use Rattle.format.specs.Layout.{meta1End, dataStart, meta2Start, meta2Length, meta2End}
+use Rattle.format.proofs.Chunks.{meta1-before-data}
+use Rattle.format.proofs.Power.{blocksize-facts}
+use Rattle.format.specs.declared.head.Head.{Head}
+use Rattle.format.specs.Meta1.{lastAt, lastFields, meta1, openingBytes}
+use Rattle.format.specs.Meta2.{unused, meta2}
+use Rattle.format.specs.Record.{entry, cell, sizeOf, countOf, isBig, meta2At, endAt}
+use Rattle.format.proofs.Refusals.{when-accepted}
+use Rattle.format.proofs.Passing.{head-tasks, head-block, passed-used}
+use Rattle.format.proofs.Stored.{length-last, length-opening, length-meta2}
+use Rattle.format.specs.declared.session.Session.{Session}
+use Rattle.format.specs.declared.session.Closed.{Closed}
+use Rattle.format.specs.Session.{State, asClosed}
+use Rattle.format.specs.Open.{Opening, tasks, openRefusal, openHead, openSession, openLists, openAnswer, openImage}
+use Rattle.format.specs.Close.{maxchunksOf, maxchunksUsed, closeRefusal, finished, closedImage, closeAnswer, closeImage}
+use Rattle.format.proofs.Opening.{OpeningHolds, opening-holds, opening-data, opened-session, opened-lists, opened-image, opened-table}
+use Rattle.format.specs.Passed.{Passed}
+use Rattle.format.proofs.Sessions.{session-passed}
+use Rattle.container.specs.Format.{Begun, OpeningStores, CloseStores}
+use Rattle.container.specs.Refusing.{Ended, afterClose}
+use Rattle.container.proofs.Refusing.{open-number, close-number, flag-ends}
+use Rattle.format.proofs.Every.{lists-hold, head-says}
 
 -- ---- opening
 
@@ -45,13 +46,9 @@ module _ (o : Opening) (image : List ℕ) (table : List ℤ) where
         let e = opened-session o image table zero in
         let few = facts .plan .few-tasks in
         record {
-          order = ap (λ (s : Session). s .head .order) e;
-          version = ap (λ (s : Session). s .head .version) e;
-          patch = ap (λ (s : Session). s .head .patch) e;
-          blocksize = ap (λ (s : Session). s .head .blocksize) e;
-          n = ap (λ (s : Session). s .head .n) e;
+          head = head-says (ap (λ (s : Session). s .head) e);
           planned = ap (λ (s : Session). s .planned) e;
-          unmarked = ap (λ (s : Session). s .closed) e;
+          not-closed = ap (λ (s : Session). s .closed) e;
           listed = lists-hold (tasks o) (entry (o .ranks)) (entry (o .sizes)) (λ i. 0) few (opened-lists o image table zero);
         }
 
@@ -112,23 +109,20 @@ module _ (st : State) where
     head = st .session .head
 
     abbrev m : ℕ
-    m = used st
+    m = maxchunksUsed st
 
     abbrev size : ℕ → ℕ
     size = sizeOf (st .lists)
 
-    holds : StateHolds st
+    closing : Passed head (st .lists) m (st .image) (st .table)
     unfolding closeRefusal
-    holds = state-holds st zero
-
-    closing : Closes st
-    closing = closes st holds
+    closing = passed-used (session-passed st zero)
 
     image-is : closeImage st ≡ finished head (st .lists) m (st .table) (st .image)
     unfolding closeImage closedImage
     image-is = when-accepted _ _ _ zero
 
-    answer-is : closeAnswer st ≡ record { refusal = 0; session = marked (st .session); length = endAt head size m }
+    answer-is : closeAnswer st ≡ record { refusal = 0; session = asClosed (st .session); length = endAt head size m }
     unfolding closeAnswer
     answer-is = when-accepted _ _ _ zero
 
@@ -155,7 +149,7 @@ module _ (st : State) where
     apart : lastAt (head .n) + 12 ≤ meta2At head size m
     unfolding meta2At meta2Start meta1End
     apart =
-        let f = blocksize-facts (head .blocksize) (head-block head (st .lists) (holds .sound .head)) in
+        let f = blocksize-facts (head .blocksize) (head-block head (st .lists) (closing .head)) in
         omega (arith, meta1-before-data (head .blocksize) (head .n) (omega arith))
 
     second-fits : meta2At head size m + length second ≤ length (st .image)
@@ -196,17 +190,13 @@ module _ (st : State) where
     unfolding finished
     close-as-long = rw image-is (length-splice between (lastAt (head .n)) last last-fits ∙ between-long)
 
-    counts-most : (i : ℕ) → i < head .n → countOf (st .lists) i ≤ m
-    unfolding maxchunksOf
-    counts-most i l = greatest-ge (countOf (st .lists)) (head .n) i l
-
     count-reached : (i : ℕ) × (i < head .n) × (countOf (st .lists) i ≡ m)
     unfolding maxchunksOf
-    count-reached = greatest-at (countOf (st .lists)) (head .n) (head-tasks head (st .lists) (holds .sound .head) .0)
+    count-reached = greatest-at (countOf (st .lists)) (head .n) (head-tasks head (st .lists) (closing .head) .0)
 
     closed-stores : CloseStores st m
     closed-stores = record {
-      most = counts-most;
+      most = closing .counts;
       reached = count-reached;
       second = second-there;
       fields = last-there;
@@ -216,11 +206,11 @@ module _ (st : State) where
       length-is = ap (λ (a : Closed). a .length) answer-is;
     }
 
-  pub close-stores : closeAnswer st .refusal ≡ 0 → CloseStores st (used st)
+  pub close-stores : closeAnswer st .refusal ≡ 0 → CloseStores st (maxchunksUsed st)
   close-stores e = closed-stores (sym (close-number st) ∙ e)
 
   -- and its mark is set then
   pub closed-ends : closeAnswer st .refusal ≡ 0 → Ended (afterClose st)
   closed-ends e =
       let set : closeAnswer st .session .closed ≡ 1 = ap (λ (s : Session). s .closed) (close-stores e .session) in
-      marked-ends (afterClose st) (λ none. omega (arith, set))
+      flag-ends (afterClose st) (λ none. omega (arith, set))

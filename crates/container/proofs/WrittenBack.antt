@@ -1,50 +1,48 @@
--- What a session accepted is read back: its closed image, followed by anything, is loaded again, and each task gives back the bytes
--- accepted from it, in order. Assumes nothing.
+-- What a session accepted is read back, from every start: its closed image, followed by anything, is loaded again, and each task gives back the bytes accepted from
+-- it, in order.
 use mathlib.Core.Path.{_≡_, sym, ap, ap₂, _∙_}
-use mathlib.Core.List.{List, [], _++_}
+use mathlib.Core.List.{List, _++_}
 use Prim.Native.Nat.{ℕ, _+_, _-_, _*_, _≤_, _<_, min}
 use native.Mathlib.Omega.{arith}
 use lib.IntN.{ℤ}
 use lib.ListN.{length, take, drop}
 use lib.Seq.{take-take}
-use Rattle.endian.specs.Below.{joinBelow}
+use Rattle.lists.specs.Below.{joinBelow}
 use Rattle.endian.specs.Signed.{natural}
-use Rattle.endian.specs.Splice.{splice}
-use Rattle.endian.proofs.Below.{length-joined, join-cong, part-cong}
-use Rattle.layout.specs.Areas.{meta1End, dataStart, chunkStart, meta2Start, meta2End}
-use Rattle.layout.proofs.Chunks.{meta1-before-data, chunk-after-data, chunk-before-meta2}
-use Rattle.layout.proofs.Power.{blocksize-facts}
-use Rattle.meta.specs.declared.head.Head.{Head}
-use Rattle.meta.specs.Meta1.{lastAt, meta1Front}
-use Rattle.meta.specs.Meta2.{valueIndex}
-use Rattle.meta.specs.Heads.{entry, cell, countOf, startOf}
-use Rattle.meta.proofs.Stripes.{count-at}
-use Rattle.emit.proofs.Stored.{opening-front}
-use Rattle.session.specs.declared.record.Session.{Session}
-use Rattle.session.specs.Records.{State}
-use Rattle.session.specs.Open.{Opening, tasks, openRefusal, openHead, openSession, openAnswer, opened}
-use Rattle.session.specs.Write.{Request, writes, refusals, accepted}
-use Rattle.session.specs.Close
-use Rattle.session.specs.Close.{closeRefusal, closeImage}
-use Rattle.session.proofs.Openings.{opening-holds}
-use Rattle.room.specs.Tally.{blank}
-use Rattle.room.proofs.Follows.{layout-of, Follows}
-use Rattle.room.proofs.Steps.{passes, runs}
-use Rattle.room.proofs.Opened.{opened-follows}
-use Rattle.room.proofs.Streams.{bytesIn, streamIn, stream-all, front-kept}
-use Rattle.container.specs.Format.{Contents, HasMeta1, HasMeta2}
-use Rattle.reading.specs.Load.{loadRefusal, loadAnswer, loadTable}
-use Rattle.reading.specs.Reads.{Container, chunkPart}
-use Rattle.container.specs.Demands.{loadedFrom, bytesSaid, streamSaid, totalSaid, Says, ReadsBack, VersionsFit, contentsOf}
-use Rattle.container.specs.Demands.{GivesBack, LoadsAgain, WrittenBack}
-use Rattle.container.proofs.Refusing.{load-number}
-use Rattle.container.proofs.Every.{every, says}
+use Rattle.lists.specs.Splice.{splice}
+use Rattle.lists.proofs.Below.{length-joined, join-cong, part-cong}
+use Rattle.format.specs.Layout.{meta1End, dataStart, chunkStart, meta2Start, meta2End}
+use Rattle.format.proofs.Chunks.{meta1-before-data, chunk-after-data, chunk-before-meta2}
+use Rattle.format.proofs.Power.{blocksize-facts}
+use Rattle.format.specs.declared.head.Head.{Head}
+use Rattle.format.specs.Meta1.{lastAt, meta1Front}
+use Rattle.format.specs.Meta2.{valueIndex}
+use Rattle.format.specs.Record.{entry, cell, countOf, startOf}
+use Rattle.format.proofs.Stripes.{count-at}
+use Rattle.format.specs.declared.session.Session.{Session}
+use Rattle.format.specs.Session.{State}
+use Rattle.format.specs.Open.{Opening, tasks, openHead, openSession}
+use Rattle.format.specs.Write.{Request, accepted}
+use Rattle.format.specs.Close
+use Rattle.format.specs.Close.{closeRefusal, closeImage}
+use Rattle.format.proofs.Opening.{PlanHolds, plan-holds}
+use Rattle.tally.specs.Simulates.{bytesIn, streamIn}
+use Rattle.tally.proofs.Simulating.{layout-of, RunSimulates}
+use Rattle.tally.proofs.Steps.{passes, run-simulates}
+use Rattle.tally.proofs.Streams.{stream-all, front-kept}
+use Rattle.format.specs.Container.{Contents, HasMeta1, HasMeta2, Says}
+use Rattle.format.specs.Load.{loadRefusal, loadAnswer, loadTable}
+use Rattle.format.specs.Reads.{Container, chunkPart, loadedFrom}
+use Rattle.container.specs.Format.{bytesSaid, streamSaid, totalSaid, ReadsBack}
+use Rattle.container.specs.Start.{VersionsFit, Start, IsStart, HasFront, after, answersTo}
+use Rattle.container.specs.WrittenBack.{contentsOf, GivesBack, LoadsAgain, WrittenBack}
+use Rattle.container.proofs.Refusing.{load-number, close-number}
+use Rattle.format.proofs.Every.{every, says}
 use Rattle.container.proofs.ReadsBack.{reads-back}
-use Rattle.reading.proofs.Stream.{counted}
-use Rattle.container.proofs.Refusing.{open-number, close-number}
-use Rattle.container.proofs.Stores.{opened-bytes}
+use Rattle.format.proofs.Stream.{counted}
 use Rattle.container.proofs.ClosedParts.{Closable, closedAs, closed-as-long, image-long, between-kept, closed-most, in-range, same-part}
 use Rattle.container.proofs.Closed.{has-meta1, has-meta2}
+use Rattle.format.proofs.Opens.{plan-passes}
 
 -- ---- the chunks of a session are those of its closed image
 
@@ -73,13 +71,13 @@ module _ (o : Opening) (st : State) (c : Closable o st) (tail : List ℕ) (i k :
         chunk-after-data (o .plan .blocksize) (tasks o) (entry (o .sizes)) (i + 1) (k + 1),
       )
 
-  top : start + size ≤ meta2Start (o .plan .blocksize) (tasks o) (entry (o .sizes)) (Close.used st)
+  top : start + size ≤ meta2Start (o .plan .blocksize) (tasks o) (entry (o .sizes)) (Close.maxchunksUsed st)
   top =
       let z : i + 1 - 1 ≡ i = omega arith in
       let f = blocksize-facts (o .plan .blocksize) (c .plan .block) in
-      let there : k + 1 ≤ Close.used st = omega (arith, closed-most o st c i l) in
+      let there : k + 1 ≤ Close.maxchunksUsed st = omega (arith, closed-most o st c i l) in
       let inside =
-      chunk-before-meta2 (o .plan .blocksize) (tasks o) (entry (o .sizes)) (i + 1) (k + 1) (Close.used st)
+      chunk-before-meta2 (o .plan .blocksize) (tasks o) (entry (o .sizes)) (i + 1) (k + 1) (Close.maxchunksUsed st)
       (omega arith) (omega arith) (omega arith) (omega arith) there in
       omega (arith, in-range o st c i k l u .2, rw z at inside)
 
@@ -92,53 +90,54 @@ module _ (o : Opening) (st : State) (c : Closable o st) (tail : List ℕ) (i k :
       (λ j h. between-kept o st c (start + j) (omega (arith, low)) (omega (arith, top)))
       ∙ sym in-state
 
--- ---- any list of writes from an accepted opening
+-- ---- any list of writes from a start
 
-module _ (o : Opening) (image : List ℕ) (table : List ℤ) (qs : List Request)
-    (zero : openRefusal o (length image) (length table) ≡ 0) where
+module _ (s : Start) (is : IsStart s) (front : HasFront s) (qs : List Request) where
+  abbrev o : Opening
+  o = s .plan
+
   abbrev st : State
-  st = writes (opened o image table) qs
+  st = after s qs
 
-  first : Follows (openSession o) (entry (o .sizes)) blank (opened o image table)
-  first = opened-follows o image table zero
+  last : RunSimulates (openSession o) (entry (o .sizes)) (s .book) (s .state) qs
+  last = run-simulates (is .follows) qs
+
+  plan : PlanHolds o
+  plan = plan-holds o (plan-passes o (is .good))
 
   front-there : take (lastAt (tasks o)) (st .image) ≡ meta1Front (openHead o) (entry (o .ranks)) (entry (o .sizes)) (o .prefix)
   unfolding openSession openHead meta1End
   front-there =
       let n : ℕ = tasks o in
       let d : ℕ = dataStart (o .plan .blocksize) n in
-      let p = opening-holds o (length image) (length table) zero .plan in
-      let f = blocksize-facts (o .plan .blocksize) (p .block) in
+      let f = blocksize-facts (o .plan .blocksize) (plan .block) in
       let less : lastAt n ≤ d = omega (arith, meta1-before-data (o .plan .blocksize) n (omega arith)) in
       sym (take-take (lastAt n) d (st .image) less)
-      ∙ ap (take (lastAt n)) (front-kept first qs ∙ opened-bytes o image table zero)
-      ∙ opening-front (openHead o) (entry (o .ranks)) (entry (o .sizes)) (o .prefix) (p .prefix-short)
+      ∙ ap (take (lastAt n)) (front-kept (is .follows) qs)
+      ∙ take-take (lastAt n) d (s .state .image) less
+      ∙ front
 
   pub closable : Closable o st
   unfolding closeRefusal openSession
   closable = record {
-    plan = opening-holds o (length image) (length table) zero .plan;
-    head-is = ap (λ (s : Session). s .head) (runs first qs .follows .session-is);
-    sizes-are = runs first qs .follows .sizes-are;
-    passes = passes (runs first qs .follows);
+    plan = plan;
+    head-is = ap (λ (s : Session). s .head) (last .follows .session-is);
+    sizes-are = last .follows .sizes-are;
+    passes = passes (last .follows);
     front = front-there;
   }
 
   abbrev bytes : ℕ → List ℕ
-  bytes i = accepted (i + 1) qs (refusals (opened o image table) qs)
-
-  none-begun : (i : ℕ) → i < tasks o → streamIn (opened o image table) i ≡ []
-  unfolding streamIn joinBelow openSession openHead
-  none-begun i l = ap (λ (n : ℕ). joinBelow n (bytesIn (opened o image table) i)) (first .counts-are i l)
+  bytes i = s .bytes (i + 1) ++ accepted (i + 1) qs (answersTo s qs)
 
   stream-accepted : (i : ℕ) → i < tasks o → streamIn st i ≡ bytes i
   unfolding openSession openHead
   stream-accepted i l =
-      let p = opening-holds o (length image) (length table) zero .plan in
-      stream-all (openSession o) (entry (o .sizes)) _ (layout-of (openSession o) (entry (o .sizes)) (p .block)) first (first .image-long) qs i l
-      ∙ ap (λ (s : List ℕ). s ++ bytes i) (none-begun i l)
+      stream-all (openSession o) (entry (o .sizes)) _ (layout-of (openSession o) (entry (o .sizes)) (plan .block)) (is .follows)
+      (is .follows .image-long) qs i l
+      ∙ ap (λ (x : List ℕ). x ++ accepted (i + 1) qs (answersTo s qs)) (is .streams i l)
 
-  module _ (fit : VersionsFit o) (tail : List ℕ) (cells : List ℤ) (room : tasks o * Close.used st ≤ length cells) where
+  module _ (fit : VersionsFit o) (tail : List ℕ) (cells : List ℤ) (room : tasks o * Close.maxchunksUsed st ≤ length cells) where
     abbrev whole : List ℕ
     whole = closedAs st tail
 
@@ -175,7 +174,7 @@ module _ (o : Opening) (image : List ℕ) (table : List ℤ) (qs : List Request)
 
     count-is : (i : ℕ) → i < tasks o → countOf (loaded .lists) i ≡ countOf (st .lists) i
     count-is i l =
-        let few = opening-holds o (length image) (length table) zero .plan .few-tasks in
+        let few = plan .few-tasks in
         sym (count-at (loaded .lists) i (omega arith)) ∙ said .recorded .listed .counts i l
 
     gives-back : GivesBack loaded (tasks o) bytes
@@ -200,11 +199,8 @@ module _ (o : Opening) (image : List ℕ) (table : List ℤ) (qs : List Request)
       gives-back = gives-back;
     }
 
-pub written-back : (o : Opening) (image : List ℕ) (table : List ℤ) (qs : List Request) → openAnswer o image table .refusal ≡ 0
-    → VersionsFit o → WrittenBack o image table qs
-written-back o image table qs e fit =
-    let zero : openRefusal o (length image) (length table) ≡ 0 = sym (open-number o image table) ∙ e in
-    record {
-      closes = close-number (writes (opened o image table) qs) ∙ closable o image table qs zero .passes;
-      loads = λ tail cells room. loads-again o image table qs zero fit tail cells room;
-    }
+pub written-back : (s : Start) → IsStart s → HasFront s → VersionsFit (s .plan) → (qs : List Request) → WrittenBack s qs
+written-back s is front fit qs = record {
+  closes = close-number (after s qs) ∙ closable s is front qs .passes;
+  loads = λ tail cells room. loads-again s is front qs fit tail cells room;
+}

@@ -1,77 +1,115 @@
--- What a container is: document 01's rules for the bytes of META1 and META2 as named facts, whatever loads them.
--- Tasks and chunks are counted from 0: i for task i + 1, k for chunk k + 1. Definitions only.
+-- Demand 2 (a) and (b): the loader accepts exactly the format and says what a container says, what is read is what it says, opening accepts
+-- exactly what the paper allows, and opening and closing store what the format asks for.
 use mathlib.Core.Path.{_≡_}
-use mathlib.Core.Bool.{Bool}
-use mathlib.Core.List.{List}
-use Prim.Native.Nat.{ℕ, _^_, _≤_, _<_}
-use lib.IntN.{ℤ, pos}
-use lib.ListN.{length, take}
-use Rattle.layout.specs.Limits.{maxTasks, minBlocksize, maxBlocksize, maxSize, maxBlocks, maxRank}
-use Rattle.layout.specs.Areas.{meta1End, capacity, meta2Start, meta2End}
-use Rattle.meta.specs.Meta1
-use Rattle.meta.specs.Meta2
+use mathlib.Core.List.{List, _++_}
+use mathlib.Core.Logic.{_⊎_}
+use Prim.Native.Nat.{ℕ, _+_, _-_, _*_, _≤_, _<_, min}
+use lib.IntN.{ℤ}
+use lib.ListN.{length, getD, take, drop, replicate}
+use Rattle.lists.specs.Below.{sumBelow, joinBelow}
+use Rattle.lists.specs.Splice.{splice}
+use Rattle.format.specs.Layout.{meta1End, dataStart, chunkStart}
+use Rattle.format.specs.Meta1.{lastAt, lastFields, meta1}
+use Rattle.format.specs.Meta2.{unused, meta2}
+use Rattle.format.specs.Record.{entry, cell, sizeOf, countOf, isBig, meta2At, endAt}
+use Rattle.format.specs.declared.session.Session.{Session}
+use Rattle.format.specs.Session.{State, asClosed}
+use Rattle.format.specs.Open.{Opening, tasks, needsAnswer, openAnswer, openImage, openTable}
+use Rattle.format.specs.Close.{closeAnswer, closeImage}
+use Rattle.format.specs.Container.{Contents, IsContainer, Says, Lists, HeadSays}
+use Rattle.format.specs.Accepted.{bytesFor, GoodPlan, GoodOpening}
+use Rattle.format.specs.Load.{loadAnswer, loadTable}
+use Rattle.format.specs.Reads.{Container, chunkRefusal, chunkPart, partAnswer, totalAnswer, readAnswer, readOutput}
+use Rattle.lists.specs.Logic.{Exactly}
 
--- what a container says: its byte order, and the numbers that its fields hold
-pub record Contents : Type 0 where
-  pub big : Bool
-  pub version : ℤ
-  pub patch : ℤ
-  pub blocksize : ℕ
-  pub n : ℕ
-  pub rank : ℕ → ℕ
-  pub size : ℕ → ℕ
-  pub maxchunks : ℕ
-  pub count : ℕ → ℕ
-  -- the chunk first, as META2 is grouped, then the task
-  pub written : ℕ → ℕ → ℕ
+-- accepted exactly when the image is a container and the table has a cell for each of its values: both directions, and what is handed back
+pub record AcceptsExactly (image : List ℕ) (table : List ℤ) : Type 0 where
+  pub only : loadAnswer image table .refusal ≡ 0 → (c : IsContainer image) × (c .says .n * c .says .maxchunks ≤ length table)
+  pub every : (c : IsContainer image) → c .says .n * c .says .maxchunks ≤ length table → loadAnswer image table .refusal ≡ 0
+  pub says : (c : IsContainer image) → loadAnswer image table .refusal ≡ 0
+      → Says (c .says) (loadAnswer image table .loaded) (loadAnswer image table .lists) table (loadTable image table)
 
--- "Numbers that bound the work": of a blocksize, and of n tasks with their ranks and sizes
-pub record InBounds (blocksize n : ℕ) (rank size : ℕ → ℕ) : Type 0 where
-  pub blocksize-power : (j : ℕ) × (blocksize ≡ 2 ^ j)
-  pub blocksize-range : (minBlocksize ≤ blocksize) × (blocksize ≤ maxBlocksize)
-  pub tasks-range : (1 ≤ n) × (n ≤ maxTasks)
-  pub ranks-range : (i : ℕ) → i < n → rank i ≤ maxRank
-  pub ranks-differ : (i j : ℕ) → i < n → j < n → rank i ≡ rank j → i ≡ j
-  pub sizes-range : (i : ℕ) → i < n → (1 ≤ size i) × (size i ≤ maxSize)
+-- a part's place in the image: the bytes there are the part, whatever record, image and table came in
+abbrev pub PartThere : Container → ℕ → ℕ → Type 0
+PartThere c task chunk =
+    take (partAnswer c task chunk .length) (drop (partAnswer c task chunk .start) (c .image)) ≡ chunkPart c task chunk
 
--- META1 of an image holds these contents, and they keep its rules
-pub record HasMeta1 (image : List ℕ) (c : Contents) : Type 0 where
-  pub bounds : InBounds (c .blocksize) (c .n) (c .rank) (c .size)
-  pub long : meta1End (c .n) ≤ length image
-  pub marked : take (length Meta1.mark) image ≡ Meta1.mark
-  pub order-is : Meta1.orderField (c .big) image ≡ pos Meta1.orderNumber
-  pub version-is : Meta1.versionField (c .big) image ≡ c .version
-  pub patch-is : Meta1.patchField (c .big) image ≡ c .patch
-  pub format-is : Meta1.formatField (c .big) image ≡ pos Meta1.formatVersion
-  pub blocksize-is : Meta1.blocksizeField (c .big) image ≡ pos (c .blocksize)
-  pub tasks-are : Meta1.tasksField (c .big) image ≡ pos (c .n)
-  pub files-are : Meta1.filesField (c .big) image ≡ pos Meta1.fileCount
-  pub file-number-is : Meta1.fileNumberField (c .big) image ≡ pos Meta1.fileNumber
-  pub ranks-are : (i : ℕ) → i < c .n → Meta1.rankField (c .big) image i ≡ pos (c .rank i)
-  pub sizes-are : (i : ℕ) → i < c .n → Meta1.sizeField (c .big) image (c .n) i ≡ pos (c .size i)
-  pub maxchunks-is : Meta1.maxchunksField (c .big) image (c .n) ≡ pos (c .maxchunks)
-  pub maxchunks-range : c .maxchunks ≤ maxBlocks
-  pub start-is : Meta1.startField (c .big) image (c .n) ≡ pos (meta2Start (c .blocksize) (c .n) (c .size) (c .maxchunks))
+-- ---- what is read of a container, with the record and the table that loading handed back
 
--- META2's own part of the image, and the value of chunk k + 1 of task i + 1 in it
-abbrev pub partOf : List ℕ → Contents → List ℕ
-partOf image c = Meta2.meta2Part image (meta2Start (c .blocksize) (c .n) (c .size) (c .maxchunks)) (c .n) (c .maxchunks)
+-- the bytes of chunk k + 1 of task i + 1, a task's whole stream and its length, as the container says
+unfoldable pub bytesSaid : List ℕ → Contents → ℕ → ℕ → List ℕ
+bytesSaid image c i k = take (c .written k i) (drop (chunkStart (c .blocksize) (c .n) (c .size) (i + 1) (k + 1)) image)
 
-abbrev pub valueOf : List ℕ → Contents → ℕ → ℕ → ℤ
-valueOf image c k i = Meta2.valueField (c .big) (partOf image c) (c .n) (Meta2.valueIndex (c .n) k i)
+unfoldable pub streamSaid : List ℕ → Contents → ℕ → List ℕ
+streamSaid image c i = joinBelow (c .count i) (bytesSaid image c i)
 
--- META2 stands where META1 says, whole, and keeps its rule
-pub record HasMeta2 (image : List ℕ) (c : Contents) : Type 0 where
-  pub fits : meta2End (c .blocksize) (c .n) (c .size) (c .maxchunks) ≤ length image
-  pub counts-are : (i : ℕ) → i < c .n → Meta2.countField (c .big) (partOf image c) i ≡ pos (c .count i)
-  pub counts-range : (i : ℕ) → i < c .n → c .count i ≤ c .maxchunks
-  pub greatest : (i : ℕ) × (i < c .n) × (c .count i ≡ c .maxchunks)
-  pub used-first : (i k : ℕ) → i < c .n → k < c .count i → valueOf image c k i ≡ pos (c .written k i)
-  pub used-fit : (i k : ℕ) → i < c .n → k < c .count i → c .written k i ≤ capacity (c .blocksize) (c .size i)
-  pub others-unused : (i k : ℕ) → i < c .n → c .count i ≤ k → k < c .maxchunks → valueOf image c k i ≡ Meta2.unused
+unfoldable pub totalSaid : Contents → ℕ → ℕ
+totalSaid c i = sumBelow (c .count i) (λ k. c .written k i)
 
--- a container: what the loader has to accept, given a table that is long enough, and nothing else
-pub record IsContainer (image : List ℕ) : Type 0 where
-  pub says : Contents
-  pub first : HasMeta1 image says
-  pub second : HasMeta2 image says
+-- every used chunk, every total and every stream from every place in it; of a chunk, also that all of its bytes are there
+pub record ReadsBack (image : List ℕ) (c : Contents) (loaded : Container) : Type 0 where
+  pub chunks : (i k : ℕ) → i < c .n → k < c .count i → chunkRefusal loaded (i + 1) (k + 1) ≡ 0
+  pub parts : (i k : ℕ) → i < c .n → k < c .count i → chunkPart loaded (i + 1) (k + 1) ≡ bytesSaid image c i k
+  pub whole : (i k : ℕ) → i < c .n → k < c .count i → length (bytesSaid image c i k) ≡ c .written k i
+  pub totals : (i : ℕ) → i < c .n → totalAnswer loaded (i + 1) ≡ record { refusal = 0; bytes = totalSaid c i }
+  pub copied : (i p : ℕ) → (out : List ℕ) → i < c .n → p ≤ totalSaid c i
+      → readAnswer loaded (i + 1) p out ≡ record { refusal = 0; bytes = min (length out) (totalSaid c i - p) }
+  pub streams : (i p : ℕ) → (out : List ℕ) → i < c .n → p ≤ totalSaid c i
+      → readOutput loaded (i + 1) p out ≡ splice out 0 (take (length out) (drop p (streamSaid image c i)))
+
+-- and what is refused then: a task that is none, a chunk that is not in use, a place past the total, each with its own number
+pub record RefusesBack (c : Contents) (loaded : Container) : Type 0 where
+  pub no-task : (task chunk p : ℕ) → (out : List ℕ) → (task ≡ 0) ⊎ (c .n < task)
+      → (chunkRefusal loaded task chunk ≡ 14) × (totalAnswer loaded task .refusal ≡ 14) × (readAnswer loaded task p out .refusal ≡ 14)
+  pub no-chunk : (i chunk : ℕ) → i < c .n → (chunk ≡ 0) ⊎ (c .count i < chunk) → chunkRefusal loaded (i + 1) chunk ≡ 22
+  pub past-total : (i p : ℕ) → (out : List ℕ) → i < c .n → totalSaid c i < p → readAnswer loaded (i + 1) p out .refusal ≡ 23
+
+-- ---- demand 2 (b): which openings are accepted, and what any accepted opening and any accepted close store, whatever came in
+
+-- opening answers 0 exactly where its arguments keep the rules, and so does `needs`, which then says how much is to be lent
+pub record OpensExactly (o : Opening) (image : List ℕ) (table : List ℤ) : Type 0 where
+  pub opens : Exactly (openAnswer o image table .refusal ≡ 0) (GoodOpening o image table)
+  pub plans : Exactly (needsAnswer o .refusal ≡ 0) (GoodPlan o)
+  pub needed : GoodPlan o
+      → (needsAnswer o .image ≡ bytesFor (o .plan .blocksize) (tasks o) (entry (o .sizes)) (o .plan .planned))
+      × (needsAnswer o .cells ≡ tasks o * o .plan .planned)
+
+-- the record of an opening says what the opening was given; no chunk is begun, and it is not marked closed
+pub record Begun (o : Opening) (s : Session) (lists : List ℕ) : Type 0 where
+  pub head : HeadSays (s .head) (o .plan .order) (o .plan .version) (o .plan .patch) (o .plan .blocksize) (tasks o)
+  pub planned : s .planned ≡ o .plan .planned
+  pub not-closed : s .closed ≡ 0
+  pub listed : Lists (tasks o) (entry (o .ranks)) (entry (o .sizes)) (λ i. 0) lists
+
+-- META1 of that record with zeros up to D, -1 in the first n·K cells, and nothing else
+pub record OpeningStores (o : Opening) (image : List ℕ) (table : List ℤ) : Type 0 where
+  pub begun : Begun o (openAnswer o image table .session) (openAnswer o image table .lists)
+  pub bytes : take (dataStart (o .plan .blocksize) (tasks o)) (openImage o image table)
+      ≡ meta1 (openAnswer o image table .session .head) (entry (o .ranks)) (entry (o .sizes)) (o .prefix) 0 0
+      ++ replicate (dataStart (o .plan .blocksize) (tasks o) - meta1End (tasks o)) 0
+  pub other-bytes : drop (dataStart (o .plan .blocksize) (tasks o)) (openImage o image table) ≡ drop (dataStart (o .plan .blocksize) (tasks o)) image
+  pub cells : take (tasks o * o .plan .planned) (openTable o image table) ≡ replicate (tasks o * o .plan .planned) unused
+  pub other-cells : drop (tasks o * o .plan .planned) (openTable o image table) ≡ drop (tasks o * o .plan .planned) table
+
+-- where META2 of so many chunks starts and ends in a session's image
+abbrev pub startsAt : State → ℕ → ℕ
+startsAt st m = meta2At (st .session .head) (sizeOf (st .lists)) m
+
+abbrev pub endOf : State → ℕ → ℕ
+endOf st m = endAt (st .session .head) (sizeOf (st .lists)) m
+
+-- META2 of the record and the table, in the record's order, and META1's last two fields, of 4 and 8 bytes; every other byte, also past the
+-- length, is as it came. m is the greatest count
+pub record CloseStores (st : State) (m : ℕ) : Type 0 where
+  pub most : (i : ℕ) → i < st .session .head .n → countOf (st .lists) i ≤ m
+  pub reached : (i : ℕ) × (i < st .session .head .n) × (countOf (st .lists) i ≡ m)
+  pub second : take (endOf st m - startsAt st m) (drop (startsAt st m) (closeImage st))
+      ≡ meta2 (isBig (st .session .head)) (st .session .head .n) m (countOf (st .lists)) (cell (st .table))
+  pub fields : take 12 (drop (lastAt (st .session .head .n)) (closeImage st)) ≡ lastFields (isBig (st .session .head)) m (startsAt st m)
+  pub others : (j : ℕ)
+      → (j < lastAt (st .session .head .n))
+      ⊎ (((meta1End (st .session .head .n) ≤ j) × (j < startsAt st m)) ⊎ (endOf st m ≤ j))
+      → getD (closeImage st) j 0 ≡ getD (st .image) j 0
+  pub as-long : length (closeImage st) ≡ length (st .image)
+  pub session : closeAnswer st .session ≡ asClosed (st .session)
+  pub length-is : closeAnswer st .length ≡ endOf st m

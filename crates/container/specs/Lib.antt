@@ -1,6 +1,6 @@
+pub mod Refusing
 pub mod Format
-pub mod Accepted
-pub mod Demands
-pub mod Numbers
-pub mod Orders
-pub mod Bytes
+pub mod Start
+pub mod WrittenBack
+pub mod Room
+pub mod Main

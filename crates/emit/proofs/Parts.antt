@@ -1,5 +1,4 @@
 -- The parts of META1 that are stored together: how long each is, and that stored one after the other they are what opening stores.
--- Assumes nothing.
 use mathlib.Core.Path.{_≡_, refl, ap, ap₂, sym, _∙_}
 use mathlib.Core.Bool.{Bool, true, false}
 use mathlib.Core.List.{List, [], _∷_, _++_, flatten, append-assoc, append-nil}
@@ -10,19 +9,20 @@ use lib.ListN.{length, replicate, length-append, length-replicate, replicate-app
 use mir.Facts.{toZ-ofZ}
 use mir.Syntax.{Width}
 use mir.Val.{SFits, toZ, ofZ}
-use Rattle.endian.specs.Below.{joinBelow}
+use Rattle.lists.specs.Below.{joinBelow}
 use Rattle.endian.specs.Signed.{signedDigits}
-use Rattle.endian.specs.Splice.{splice}
+use Rattle.lists.specs.Splice.{splice}
 use Rattle.endian.proofs.Number.{length-digits}
 use Rattle.endian.proofs.Signed.{length-numbers}
-use Rattle.endian.proofs.Splice.{put-first, put-then}
-use Rattle.layout.specs.Limits.{blocksizeRule}
-use Rattle.layout.specs.Areas.{meta1End, dataStart}
-use Rattle.layout.proofs.Chunks.{meta1-before-data}
-use Rattle.layout.proofs.Power.{blocksize-facts}
-use Rattle.meta.specs.declared.head.Head.{Head}
-use Rattle.meta.specs.Heads.{isBig}
-use Rattle.meta.specs.Meta1.{prefixLength, fixedLength, lastAt, padded, lastFields, meta1Front, meta1, openingBytes}
+use Rattle.lists.proofs.Splice.{put-first, put-then}
+use Rattle.format.specs.Limits.{blocksizeRule}
+use Rattle.format.specs.Layout.{meta1End, dataStart}
+use Rattle.format.proofs.Chunks.{meta1-before-data}
+use Rattle.format.proofs.Power.{blocksize-facts}
+use Rattle.format.proofs.Stored.{length-padded}
+use Rattle.format.specs.declared.head.Head.{Head}
+use Rattle.format.specs.Record.{isBig}
+use Rattle.format.specs.Meta1.{prefixLength, fixedLength, lastAt, padded, lastFields, meta1Front, meta1, openingBytes}
 use Rattle.emit.specs.Parts.{versions, shape}
 
 -- a signed number is stored as what the machine reads back from its bits, which is the number
@@ -39,9 +39,6 @@ length-versions big version patch = simp (length-append, length-digits)
 pub length-shape : (big : Bool) (blocksize n : ℕ) → length (shape big blocksize n) ≡ 32
 unfolding shape
 length-shape big blocksize n = simp (length-append, length-digits)
-
-pub length-padded : (prefix : List ℕ) → length prefix ≤ prefixLength → length (padded prefix) ≡ prefixLength
-length-padded prefix l = simp (length-append, length-replicate) (omega arith)
 
 length-fixed : (h : Head) (big : Bool) (prefix : List ℕ) → length prefix ≤ prefixLength
     → length ((versions big (h .version) (h .patch) ++ shape big (h .blocksize) (h .n)) ++ padded prefix) ≡ fixedLength

@@ -1,17 +1,16 @@
--- The two groups of fields before META1's prefix, as the bytes that are stored together: META1 itself is `meta1Front` of crate meta.
--- Definitions only.
+-- The two groups of fields before META1's prefix, as the bytes that are stored together; META1 itself is `meta1Front` of `format`.
 use mathlib.Core.Bool.{Bool}
 use mathlib.Core.List.{List, _++_}
 use Prim.Native.Nat.{ℕ}
 use lib.IntN.{ℤ, pos}
 use lib.ListN.{replicate}
 use Rattle.endian.specs.Signed.{signedDigits}
-use Rattle.meta.specs.Meta1.{mark, orderNumber, formatVersion, fileCount, fileNumber}
+use Rattle.format.specs.Meta1.{magic, orderNumber, formatVersion, fileCount, fileNumber}
 
--- the mark, the order and the versions
+-- the magic, the order and the versions
 unfoldable pub versions : Bool → ℤ → ℤ → List ℕ
 versions big version patch =
-    (((mark ++ signedDigits big 4 (pos orderNumber)) ++ signedDigits big 4 version) ++ signedDigits big 4 patch)
+    (((magic ++ signedDigits big 4 (pos orderNumber)) ++ signedDigits big 4 version) ++ signedDigits big 4 patch)
     ++ signedDigits big 4 (pos formatVersion)
 
 -- the blocksize, the tasks, the one file and the two flags, 8 bytes of zeros each

@@ -6,22 +6,22 @@ ghost use mathlib.Core.List.{_++_};
 ghost use Prim.Native.Nat.{_+_, _-_, _*_, _≤_};
 ghost use lib.IntN.{pos};
 ghost use lib.ListN.{length, getD, replicate};
-ghost use Rattle.endian.specs.Below.{joinBelow};
+ghost use Rattle.lists.specs.Below.{joinBelow};
 ghost use Rattle.endian.specs.Number.{digits};
 ghost use Rattle.endian.specs.Signed.{signedDigits};
-ghost use Rattle.endian.specs.Splice.{splice};
-ghost use Rattle.layout.specs.Limits.{blocksizeRule, maxTasks, maxBlocks};
-ghost use Rattle.layout.specs.Areas.{meta1End, dataStart, meta2Length};
-ghost use Rattle.meta.specs.declared.head.Head.{Head};
-ghost use Rattle.meta.specs.Heads.{entry, cell, allLists, rankOf, sizeOf};
-ghost use Rattle.meta.specs.Meta1.{prefixLength, fixedLength, lastAt, padded, lastFields, openingBytes};
-ghost use Rattle.meta.specs.Meta2.{meta2};
+ghost use Rattle.lists.specs.Splice.{splice};
+ghost use Rattle.format.specs.Limits.{blocksizeRule, maxTasks, maxBlocks};
+ghost use Rattle.format.specs.Layout.{meta1End, dataStart, meta2Length};
+ghost use Rattle.format.specs.declared.head.Head.{Head};
+ghost use Rattle.format.specs.Record.{entry, cell, allLists, rankOf, sizeOf};
+ghost use Rattle.format.specs.Meta1.{prefixLength, fixedLength, lastAt, padded, lastFields, openingBytes};
+ghost use Rattle.format.specs.Meta2.{meta2};
 ghost use Rattle.emit.specs.Parts.{versions, shape};
 use endian::store;
 use endian::write;
-use meta::field;
-use meta::head;
-use meta::head::Head;
+use format::field;
+use format::head;
+use format::head::Head;
 
 // Zeros from `from` up to `to`.
 fn put_zeros(image: &mut [u8], from: usize, to: usize)
@@ -80,18 +80,18 @@ pub fn last_fields(image: &mut [u8], n: u32, big: bool, maxchunks: u32, start: u
     requires { ⌜ (n ≤ maxTasks) × (meta1End n ≤ length (now image)) ⌝ }
     ensures { λ _. ⌜ now (image .exit) ≡ splice (now (image .entry)) (lastAt n) (lastFields big maxchunks start) ⌝ }
 {
-    let at = field::last_at(n as usize);
+    let at = layout::last_at(n as usize);
     write::put_u32(image, at, big, maxchunks);
     write::put_u64(image, at + 4, big, start);
 }
 
-// The mark, the order and the versions, from 0 on.
+// The magic, the order and the versions, from 0 on.
 fn put_versions(image: &mut [u8], big: bool, version: i32, patch: i32)
     requires { ⌜ 20 ≤ length (now image) ⌝ }
     ensures { λ _. ⌜ now (image .exit) ≡ splice (now (image .entry)) 0 (versions big version patch) ⌝ }
 {
-    let mark = field::MARK;
-    store::copy_in(image, &mark);
+    let magic = field::MAGIC;
+    store::copy_in(image, &magic);
     write::put_u32(image, field::ORDER_AT, big, field::ORDER);
     write::put_i32(image, field::VERSION_AT, big, version);
     write::put_i32(image, field::PATCH_AT, big, patch);
@@ -138,13 +138,13 @@ pub fn meta1(image: &mut [u8], h: Head, lists: &[u64], prefix: &[u8])
 {
     let big = h.order == 1;
     let n = h.n as usize;
-    let last = field::last_at(n);
+    let last = layout::last_at(n);
     let end = layout::data_start(h.n, h.blocksize) as usize;
     put_fixed(image, h, big, prefix);
     put_list(image, field::RANKS_AT, &lists[..head::SIZES], n, big);
     put_list(
         image,
-        field::sizes_at(n),
+        layout::sizes_at(n),
         &lists[head::SIZES..head::COUNTS],
         n,
         big,

@@ -1,5 +1,4 @@
 -- Laws of numbers as bytes, each once for every width and in either order: lengths, there and back, and a number from its bytes one by one.
--- Assumes nothing.
 use mathlib.Core.Path.{_≡_, refl, sym, ap, _∙_}
 use mathlib.Core.Bool.{Bool, true, false}
 use mathlib.Core.List.{List, [], _∷_, reverse-reverse}
@@ -10,9 +9,9 @@ use lib.Arith.{lt-one}
 use lib.Dec.{lit<}
 use lib.ListN.{length, take, drop, getD, length-reverse}
 use lib.Seq.{drop-cons}
-use Rattle.endian.specs.Below.{joinBelow, listBelow}
+use Rattle.lists.specs.Below.{joinBelow, listBelow}
 use Rattle.endian.specs.Number.{little, number, lowest, digits, numberAt}
-use Rattle.endian.proofs.Below.{part-list, join-cong}
+use Rattle.lists.proofs.Below.{part-list, join-cong}
 
 length-lowest : (w v : ℕ) → length (lowest w v) ≡ w
 length-lowest zero v = refl

@@ -1,5 +1,4 @@
 -- Laws of two's complement, each once for every width: there and back, bounds, a range test, and what is read where it was stored.
--- Assumes nothing.
 use mathlib.Core.Path.{_≡_, refl, sym, ap, _∙_}
 use mathlib.Core.Bool.{Bool, true, false, cond, _&&_, and-false, false≢true}
 use mathlib.Core.List.{List, _++_, append-assoc}
@@ -14,12 +13,12 @@ use lib.Pow.{pow-add}
 use lib.Seq.{take-at, drop-drop, drop-append-le}
 use lib.Signed.{mag}
 use borrow.Author.Tests.{lt-ltb, le-ltb, ltb-true, ltb-false, leb-true, le-leb, lt-leb, eqb-true, eq-eqb}
-use Rattle.endian.specs.Below.{joinBelow}
+use Rattle.lists.specs.Below.{joinBelow}
 use Rattle.endian.specs.Number.{number}
 use Rattle.endian.specs.Signed.{signed, bitsOf, signBit, signedAt, signedDigits, within, sameZ, natural}
-use Rattle.endian.proofs.Below.{and-left, and-right, length-join}
+use Rattle.lists.proofs.Below.{and-left, and-right, length-join}
 use Rattle.endian.proofs.Number.{length-digits, number-digits}
-use Rattle.endian.proofs.Pieces.{drop-join}
+use Rattle.lists.proofs.Pieces.{drop-join}
 
 -- the lower and the upper half of the numbers of h + 1 bits
 pub signed-low : (h n : ℕ) → n < 2 ^ h → signed h n ≡ pos n

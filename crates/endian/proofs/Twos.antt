@@ -1,4 +1,4 @@
--- Two's complement by one signed operation, at any width, as `signed32`, `signed64`, `bits32` and `bits64` compute it. Assumes nothing.
+-- Two's complement by one signed operation, at any width, as `signed32`, `signed64`, `bits32` and `bits64` compute it.
 use mathlib.Core.Path.{_≡_, refl, sym, ap, _∙_, subst}
 use mathlib.Core.Bool.{true, false}
 use Prim.Native.Nat.{ℕ, suc, _+_, _-_, _*_, _^_, _<_, _≤_}

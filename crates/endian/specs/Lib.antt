@@ -1,4 +1,2 @@
-pub mod Below
 pub mod Number
 pub mod Signed
-pub mod Splice

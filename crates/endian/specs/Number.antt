@@ -1,5 +1,5 @@
--- Unsigned numbers as bytes, in either byte order and of any width (document 01, "Every number stands in the container's byte order").
--- The order is a Bool that is passed: true, `big`, has the highest byte first. Definitions only.
+-- Unsigned numbers as bytes, in either byte order and of any width (document 01, "Every number stands in the container's byte order"). The order
+-- is a Bool that is passed: true, `big`, has the highest byte first.
 use mathlib.Core.Bool.{Bool, true, false}
 use mathlib.Core.List.{List, [], _∷_, reverse}
 use Prim.Native.Nat.{ℕ, zero, suc, _+_, _*_, _/_, _%_}

@@ -1,5 +1,4 @@
 -- Signed numbers as bytes: two's complement (document 01, "is signed two's complement"), in either byte order and of any width.
--- Definitions only.
 use mathlib.Core.Bool.{Bool, false, cond, _&&_}
 use mathlib.Core.List.{List}
 use Prim.Native.Nat.{ℕ, suc, _-_, _*_, _^_}

@@ -2,7 +2,7 @@
 ghost use mathlib.Core.Path.{_≡_};
 ghost use Prim.Native.Nat.{_≤_};
 ghost use lib.ListN.{length, replicate};
-ghost use Rattle.endian.specs.Splice.{splice};
+ghost use Rattle.lists.specs.Splice.{splice};
 
 // src into the start of part, which is at least as long; the rest of part stays.
 pub fn copy_in(part: &mut [u8], src: &[u8])

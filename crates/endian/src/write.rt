@@ -4,7 +4,7 @@ ghost use Prim.Native.Nat.{_+_, _≤_};
 ghost use lib.ListN.{length};
 ghost use Rattle.endian.specs.Number.{digits};
 ghost use Rattle.endian.specs.Signed.{signedDigits};
-ghost use Rattle.endian.specs.Splice.{splice};
+ghost use Rattle.lists.specs.Splice.{splice};
 use crate::sign;
 use crate::store;
 

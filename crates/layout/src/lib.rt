@@ -2,13 +2,13 @@
 // Every function asks for numbers within document 01's limits, under which no sum here can overflow.
 ghost use mathlib.Core.Path.{_≡_};
 ghost use mathlib.Core.Bool.{true};
-ghost use Prim.Native.Nat.{_+_, _≤_};
+ghost use Prim.Native.Nat.{_+_, _*_, _≤_};
 ghost use lib.IntN.{pos};
 ghost use lib.ListN.{getD};
-ghost use Rattle.layout.specs.Limits.{blocksizeRule, maxTasks, maxSize, maxBlocks, Sound};
-ghost use Rattle.layout.specs.Areas.{meta1End, roundUp, dataStart, extended, capacity, extendedBefore, globalskip, chunkStart, meta2Start, meta2Length, meta2End};
-
-pub mod limit;
+ghost use Rattle.format.specs.Limits.{blocksizeRule, maxTasks, maxSize, maxBlocks, Sound};
+ghost use Rattle.format.specs.Layout.{meta1End, roundUp, dataStart, extended, capacity, extendedBefore, globalskip, chunkStart, meta2Start, meta2Length, meta2End};
+ghost use Rattle.format.specs.Meta1.{fixedLength, lastAt};
+use format::field;
 
 // The least multiple of blocksize that is at least x.
 pub fn round_up(x: u64, blocksize: u32) -> u64
@@ -103,4 +103,20 @@ pub fn meta2_end(sizes: &[u64], n: u32, blocksize: u32, maxchunks: u32) -> u64
     ensures { λ r. ⌜ r ≡ meta2End blocksize n (λ j. getD (now (sizes .entry)) j 0) maxchunks ⌝ }
 {
     meta2_start(sizes, n, blocksize, maxchunks) + meta2_length(n, maxchunks)
+}
+
+// Where the sizes of n tasks stand, numbers of 8 bytes.
+pub fn sizes_at(n: usize) -> usize
+    requires { ⌜ n ≤ maxTasks ⌝ }
+    ensures { λ r. ⌜ r ≡ fixedLength + 8 * n ⌝ }
+{
+    field::RANKS_AT + 8 * n
+}
+
+// Where maxchunks stands, a number of 4 bytes, and behind it start_of_varheader, of 8.
+pub fn last_at(n: usize) -> usize
+    requires { ⌜ n ≤ maxTasks ⌝ }
+    ensures { λ r. ⌜ r ≡ lastAt n ⌝ }
+{
+    field::RANKS_AT + 16 * n
 }

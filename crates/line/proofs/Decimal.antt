@@ -1,19 +1,24 @@
--- A number in decimal is the fewest digits that hold it, and they are no more than the widest has. Assumes nothing.
+-- A number in decimal is the fewest digits that hold it, and they are no more than the widest has.
 use mathlib.Core.Path.{_≡_, refl, sym, ap, _∙_}
 use mathlib.Core.Bool.{Bool, true, false, cond}
-use Prim.Native.Nat.{ℕ, zero, suc, _-_, _/_, _^_, _≤_, _<_}
+use Prim.Native.Nat.{ℕ, zero, suc, _-_, _/_, _%_, _^_, _≤_, _<_}
 use native.Mathlib.Nat.{pow-suc, one-le-pow, pow-le-pow-right}
 use native.Mathlib.Numerals.{add-one}
 use native.Mathlib.Omega.{arith}
 use lib.Dec.{ltb}
 use lib.ListN.{length, length-append}
-use borrow.Author.Tests.{ltb-true, ltb-false}
+use borrow.Author.Tests.{lt-ltb, ltb-true, ltb-false}
 use Rattle.io.specs.Digits.{digits, Fewest}
-use Rattle.line.specs.Line.{places, widest, decimal}
+use Rattle.format.specs.Line.{places, widest, lastDigits, decimal}
 
-length-digits : (b k n : ℕ) → length (digits b k n) ≡ k
-length-digits b zero n = refl
-length-digits b (suc k) n = rw (length-append, length-digits b k (n / b)) (add-one k)
+length-digits : (k n : ℕ) → length (lastDigits k n) ≡ k
+length-digits zero n = refl
+length-digits (suc k) n = rw (length-append, length-digits k (n / 10)) (add-one k)
+
+-- the digits that `io` writes, in base 10
+digits-last : (k n : ℕ) → digits 10 k n ≡ lastDigits k n
+digits-last zero n = refl
+digits-last (suc k) n = rw (digits-last k (n / 10), lt-ltb (n % 10) 10 (omega arith)) refl
 
 -- a number below 10 has one digit
 one-digit : (n k : ℕ) → Fewest 10 1 n k → n < 10 → 1 ≡ k
@@ -61,7 +66,7 @@ module _ (n k : ℕ) (f : Fewest 10 1 n k) (l : n < 10 ^ widest) where
   decimal-few = few-digits widest n k f (omega arith) l
 
   pub decimal-is : digits 10 k n ≡ decimal n
-  decimal-is = ap (λ (j : ℕ). digits 10 j n) (sym (places-fewest widest n k f decimal-few))
+  decimal-is = digits-last k n ∙ ap (λ (j : ℕ). lastDigits j n) (sym (places-fewest widest n k f decimal-few))
 
   pub decimal-length : length (decimal n) ≡ k
-  decimal-length = length-digits 10 (places widest n) n ∙ places-fewest widest n k f decimal-few
+  decimal-length = length-digits (places widest n) n ∙ places-fewest widest n k f decimal-few

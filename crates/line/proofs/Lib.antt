@@ -1,4 +1,3 @@
 pub mod Decimal
-pub mod Numbers
 pub mod Text
 pub mod Whole

@@ -1,4 +1,4 @@
--- Laws of a text that grows in lent memory: by a space, by what stands behind it, and by one more number. Assumes nothing.
+-- Laws of a text that grows in lent memory: by a space, by what stands behind it, and by one more number.
 use mathlib.Core.Path.{_≡_, sym, ap, _∙_}
 use mathlib.Core.List.{List, [], _∷_, _++_, append-assoc, append-nil}
 use Prim.Native.Nat.{ℕ, suc, _+_, _<_}
@@ -6,10 +6,10 @@ use native.Mathlib.Numerals.{add-one}
 use native.Mathlib.Omega.{arith}
 use lib.ListN.{length, take, drop, set}
 use lib.Seq.{take-suc-set, drop-set-lt}
-use Rattle.endian.specs.Below.{listBelow}
-use Rattle.endian.proofs.Below.{join-more}
-use Rattle.endian.specs.Splice.{splice}
-use Rattle.line.specs.Line.{decimal, space, spaced}
+use Rattle.lists.specs.Below.{listBelow}
+use Rattle.lists.proofs.Below.{join-more}
+use Rattle.lists.specs.Splice.{splice}
+use Rattle.format.specs.Line.{decimal, space, spaced}
 
 -- a space, and what is put behind it
 pub behind-space : (xs : List ℕ) (at : ℕ) (vs : List ℕ) → at < length xs → splice (set xs at space) (at + 1) vs ≡ splice xs at (space ∷ vs)

@@ -1,5 +1,4 @@
 -- The whole line that a load's answer gives, what the memory that it is put into holds, and how many tasks an accepted one has at most.
--- Assumes nothing.
 use mathlib.Core.Path.{_≡_, sym, ap, ap₂, _∙_}
 use mathlib.Core.Bool.{Bool, cond}
 use mathlib.Core.List.{List, [], _∷_, _++_, append-assoc, append-nil}
@@ -10,21 +9,20 @@ use lib.Dec.{eqb}
 use lib.IntN.{ℤ, pos}
 use lib.ListN.{length, replicate}
 use borrow.Author.Tests.{lt-ltb, le-ltb, eq-eqb, ne-eqb}
-use Rattle.endian.specs.Splice.{splice}
-use Rattle.endian.proofs.Signed.{within-natural}
+use Rattle.lists.specs.Splice.{splice}
 use Rattle.io.specs.Counts.{Counts}
 use Rattle.io.proofs.Counting.{counts}
-use Rattle.layout.specs.Limits.{maxTasks, tasksRule}
-use Rattle.meta.specs.Meta1.{tasksField}
-use Rattle.meta.specs.Judge.{bigIn, tasksIn, headIn}
-use Rattle.meta.proofs.Refusals.{when-accepted}
-use Rattle.reading.specs.declared.record.LoadAnswer.{LoadAnswer}
-use Rattle.reading.specs.Load.{loadRefusal, loadedIn, checkAnswer, loadAnswer, loadTable}
-use Rattle.reading.specs.Reads.{containerOf}
-use Rattle.reading.proofs.LoadTests.{load-holds}
+use Rattle.format.specs.Limits.{maxTasks}
+use Rattle.format.specs.Judge.{tasksIn, headIn}
+use Rattle.format.proofs.Refusals.{when-accepted}
+use Rattle.format.specs.declared.loaded.LoadAnswer.{LoadAnswer}
+use Rattle.format.specs.Load.{loadRefusal, loadedIn, checkAnswer, loadAnswer, loadTable}
+use Rattle.format.specs.Reads.{containerOf}
+use Rattle.format.proofs.Accepting.{tasks-in}
+use Rattle.format.proofs.LoadTests.{load-holds}
 use Rattle.container.proofs.Refusing.{load-number}
-use Rattle.line.specs.Line.{decimal, space, spaced, cells, totalsOf, longest, long, room, loaded, rest, containerLine, lineOf}
-use Rattle.endian.proofs.Splice.{Put, put-is}
+use Rattle.format.specs.Line.{decimal, space, spaced, cells, totalsOf, longest, long, lineRoom, loaded, rest, containerLine, lineOf}
+use Rattle.lists.proofs.Splice.{Put, put-is}
 
 -- every input of more than the most bytes has the line `long`, every other its container's line
 pub long-line : (input : List ℕ) → longest < length input → lineOf input ≡ long
@@ -38,15 +36,15 @@ short-line input few = rw (le-ltb longest (length input) few)
 -- an accepted container has no more than the most tasks
 pub few-tasks : (image : List ℕ) (table : List ℤ) (answer : LoadAnswer) → answer ≡ loadAnswer image table → answer .refusal ≡ 0
     → answer .loaded .head .n ≤ maxTasks
-unfolding loadAnswer checkAnswer loadedIn headIn tasksIn tasksRule
+unfolding loadAnswer checkAnswer loadedIn headIn tasksIn
 few-tasks image table answer e none =
     let z : loadRefusal image (length table) ≡ 0 = sym (load-number image table) ∙ ap (λ (a : LoadAnswer). a .refusal) (sym e) ∙ none in
     let n = ap (λ (a : LoadAnswer). a .loaded .head .n) (e ∙ when-accepted (loadRefusal image (length table)) _ _ z) in
-    rw n (within-natural 1 maxTasks (tasksField (bigIn image) image) (load-holds image (length table) z .first .tasks) .2)
+    rw n (tasks-in (load-holds image (length table) z .first) .2)
 
 -- the line, put at the start of the memory
-pub line-put : (image xs : List ℕ) {text ys : List ℕ} {end : ℕ} → text ≡ containerLine image → end < room → room ≤ length ys → Put xs 0 text ys end
-    → (ys ≡ splice xs 0 (containerLine image)) × (((end ≡ length (containerLine image)) × Counts end ys) × ((end < room) × (end < length ys)))
+pub line-put : (image xs : List ℕ) {text ys : List ℕ} {end : ℕ} → text ≡ containerLine image → end < lineRoom → lineRoom ≤ length ys → Put xs 0 text ys end
+    → (ys ≡ splice xs 0 (containerLine image)) × (((end ≡ length (containerLine image)) × Counts end ys) × ((end < lineRoom) × (end < length ys)))
 line-put image xs {ys = ys} {end = end} e fits all p =
     let q = put-is xs 0 e p in
     (q .0, ((rw zero-add at (q .1), counts end ys (omega arith)), (fits, omega arith)))

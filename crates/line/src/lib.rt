@@ -1,25 +1,17 @@
-// What the two programs share: an input read whole (`input`), the one line of document 01 about it, as text in lent memory, and a text written
-// (`output`). The line's end is left to who prints it.
+// The one line of document 01 about an input, as text in lent memory. The line's end is left to who prints it.
 ghost use mathlib.Core.Path.{_≡_};
 ghost use mathlib.Core.List.{_∷_};
 ghost use Prim.Native.Nat.{_+_, _*_, _≤_, _<_};
 ghost use lib.ListN.{length};
-ghost use Rattle.endian.specs.Splice.{splice};
+ghost use Rattle.lists.specs.Splice.{splice};
 ghost use Rattle.io.specs.Counts.{Counts};
-ghost use Rattle.reading.specs.declared.record.Loaded.{Loaded};
-ghost use Rattle.reading.specs.Reads.{containerOf};
-ghost use Rattle.line.specs.Line.{decimal, space, spaced, totalsOf, room, containerLine, lineOf};
+ghost use Rattle.format.specs.declared.loaded.Loaded.{Loaded};
+ghost use Rattle.format.specs.Reads.{containerOf};
+ghost use Rattle.format.specs.Line.{decimal, space, spaced, totalsOf, lineRoom, containerLine, lineOf};
 use endian::store;
-use input::LONGEST;
-use meta::head::LISTS;
-use reading::record::Loaded;
-
-pub mod input;
-pub mod output;
-
-// A read or a write that a signal interrupts is made again, up to so many times in a row; after that it has failed. No row of signals is that
-// long: the bound is there because every loop is proved to end.
-const AGAIN: u32 = 1_000_000_000;
+use format::head::LISTS;
+use format::loaded::Loaded;
+use streams::input::LONGEST;
 
 // The cells of the table that a container is loaded with.
 const CELLS: usize = 2_048;
@@ -77,7 +69,7 @@ fn put_totals(
 fn container_line(image: &[u8], out: &mut [u8; LINE]) -> usize
     ensures { λ _. ⌜ now (out .exit) ≡ splice (now (out .entry)) 0 (containerLine (now (image .entry))) ⌝ }
     ensures { λ r. ⌜ (r ≡ length (containerLine (now (image .entry)))) × Counts r (now (out .exit)) ⌝ }
-    ensures { λ r. ⌜ (r < room) × (r < length (now (out .exit))) ⌝ }
+    ensures { λ r. ⌜ (r < lineRoom) × (r < length (now (out .exit))) ⌝ }
 {
     let mut table = [0i64; CELLS];
     let answer = container::load(image, &mut table);
@@ -97,7 +89,7 @@ fn container_line(image: &[u8], out: &mut [u8; LINE]) -> usize
 pub fn line(input: &[u8], out: &mut [u8; LINE]) -> usize
     ensures { λ _. ⌜ now (out .exit) ≡ splice (now (out .entry)) 0 (lineOf (now (input .entry))) ⌝ }
     ensures { λ r. ⌜ (r ≡ length (lineOf (now (input .entry)))) × Counts r (now (out .exit)) ⌝ }
-    ensures { λ r. ⌜ (r < room) × (r < length (now (out .exit))) ⌝ }
+    ensures { λ r. ⌜ (r < lineRoom) × (r < length (now (out .exit))) ⌝ }
 {
     if LONGEST < input.len() {
         store::copy_in(out, b"long");

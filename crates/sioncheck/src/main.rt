@@ -1,8 +1,8 @@
 // The program of document 01: reads an input from standard input and prints the one line about it.
 use line::LINE;
-use line::input;
-use line::input::INPUT;
-use line::output;
+use streams::input;
+use streams::input::INPUT;
+use streams::output;
 
 // The line and its end go out in one write.
 fn print_line(input: &[u8]) {

@@ -1,13 +1,13 @@
 // Runs stored containers: for each file that an argument names, prints its name, the line about it and, if it is accepted, the Adler-32
 // (RFC 1950) of all its chunks' parts and of all its tasks' streams, and what a load answers whose table has one cell too few.
 ghost use Rattle.io.specs.Counts.{Counts};
+use format::head::LISTS;
+use format::loaded::Loaded;
 use line::LINE;
-use line::input;
-use line::input::INPUT;
-use line::input::LONGEST;
-use line::output;
-use meta::head::LISTS;
-use reading::record::Loaded;
+use streams::input;
+use streams::input::INPUT;
+use streams::input::LONGEST;
+use streams::output;
 
 const CELLS: usize = 2_048;
 

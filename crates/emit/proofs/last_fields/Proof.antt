@@ -1,14 +1,14 @@
--- `last_fields` meets its contract: two stores, the second where the first ends.
+-- Two stores, the second where the first ends.
 use mathlib.Core.Path.{ap, _∙_}
 use Prim.Native.Nat.{ℕ, _+_}
 use native.Mathlib.Omega.{arith}
 use borrow.Author.Needs.{needs}
 use Rattle.endian.specs.Number.{digits}
-use Rattle.endian.specs.Splice.{splice}
+use Rattle.lists.specs.Splice.{splice}
 use Rattle.endian.proofs.Number.{length-digits}
-use Rattle.endian.proofs.Splice.{put-first, put-then}
-use Rattle.layout.specs.Areas.{meta1End}
-use Rattle.meta.specs.Meta1.{lastAt, lastFields}
+use Rattle.lists.proofs.Splice.{put-first, put-then}
+use Rattle.format.specs.Layout.{meta1End}
+use Rattle.format.specs.Meta1.{lastAt, lastFields}
 use Rattle.emit.proofs.last_fields.Statement.{statement}
 use Rattle.emit.proofs.last_fields.Tie as tie
 

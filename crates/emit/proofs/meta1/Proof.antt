@@ -1,15 +1,15 @@
--- `meta1` meets its contract: four stores, each where the last ended. Assumes nothing.
+-- Four stores, each where the last ended.
 use mathlib.Core.Path.{sym, ap, _∙_}
 use Prim.Native.Nat.{ℕ, _-_}
 use native.Mathlib.Omega.{arith}
 use lib.IntN.{pos}
 use lib.ListN.{replicate}
 use borrow.Author.Needs.{needs}
-use Rattle.endian.specs.Below.{joinBelow}
+use Rattle.lists.specs.Below.{joinBelow}
 use Rattle.endian.specs.Signed.{signedDigits}
-use Rattle.endian.specs.Splice.{splice}
-use Rattle.meta.specs.Heads.{isBig, rankOf, sizeOf}
-use Rattle.meta.proofs.Stripes.{length-ranks, length-sizes}
+use Rattle.lists.specs.Splice.{splice}
+use Rattle.format.specs.Record.{isBig, rankOf, sizeOf}
+use Rattle.format.proofs.Stripes.{length-ranks, length-sizes}
 use Rattle.emit.proofs.Parts.{opening-fits, opening-stored}
 use Rattle.emit.proofs.meta1.Statement.{statement}
 use Rattle.emit.proofs.meta1.Tie as tie

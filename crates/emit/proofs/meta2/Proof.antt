@@ -1,4 +1,4 @@
--- `meta2` meets its contract: the counts, and the cells where these end.
+-- The counts, and the cells where these end.
 use Prim.Native.Nat.{ℕ, _*_}
 use mathlib.Core.List.{List}
 use native.Mathlib.Omega.{arith}
@@ -6,10 +6,10 @@ use borrow.Author.Needs.{needs}
 use Rattle.endian.specs.Number.{digits}
 use Rattle.endian.proofs.Number.{length-digits}
 use Rattle.endian.proofs.Signed.{length-numbers}
-use Rattle.endian.proofs.Splice.{put-join, put-then}
-use Rattle.meta.specs.Meta2.{meta2}
-use Rattle.meta.specs.Heads.{entry, cell}
-use Rattle.meta.proofs.Rows.{meta2-parts}
+use Rattle.lists.proofs.Splice.{put-join, put-then}
+use Rattle.format.specs.Meta2.{meta2}
+use Rattle.format.specs.Record.{entry, cell}
+use Rattle.format.proofs.Chunks.{meta2-parts}
 use Rattle.emit.proofs.meta2.Statement.{statement}
 use Rattle.emit.proofs.meta2.Tie as tie
 

@@ -1,5 +1,4 @@
--- `put_cells` meets its contract. The loop's invariant: the first j cells are spliced into the image. The measure is the cells left.
--- Assumes nothing.
+-- The loop's invariant: the first j cells are spliced into the image. The measure is the cells left.
 use Prim.Native.Nat.{ℕ, _-_, _≤_}
 use mathlib.Core.List.{List}
 use mathlib.Core.Path.{_≡_, refl, ap, _∙_}
@@ -8,12 +7,12 @@ use native.Mathlib.Omega.{arith}
 use borrow.Author.Needs.{needs, sfits-of}
 use lib.ListN.{length}
 use mir.Syntax.{w64}
-use Rattle.endian.specs.Below.{joinBelow}
+use Rattle.lists.specs.Below.{joinBelow}
 use Rattle.endian.specs.Signed.{signedDigits}
-use Rattle.endian.specs.Splice.{splice}
+use Rattle.lists.specs.Splice.{splice}
 use Rattle.endian.proofs.Number.{length-digits}
-use Rattle.endian.proofs.Splice.{join-none, join-then}
-use Rattle.meta.specs.Heads.{cell}
+use Rattle.lists.proofs.Splice.{join-none, join-then}
+use Rattle.format.specs.Record.{cell}
 use Rattle.emit.proofs.Parts.{store-signed}
 use Rattle.emit.proofs.put_cells.Statement.{statement}
 use Rattle.emit.proofs.put_cells.Tie as tie

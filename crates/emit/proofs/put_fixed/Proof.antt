@@ -1,14 +1,15 @@
--- `put_fixed` meets its contract: three stores, each where the last ended.
+-- Three stores, each where the last ended.
 use mathlib.Core.Path.{ap, ap₂, _∙_}
 use native.Mathlib.Omega.{arith}
 use mir.Facts.{toZ-ofZ}
 use mir.Syntax.{w32}
 use borrow.Author.Needs.{needs, sfits-of}
-use Rattle.endian.specs.Splice.{splice}
-use Rattle.endian.proofs.Splice.{put-first, put-then}
-use Rattle.meta.specs.Meta1.{prefixLength}
+use Rattle.lists.specs.Splice.{splice}
+use Rattle.lists.proofs.Splice.{put-first, put-then}
+use Rattle.format.specs.Meta1.{prefixLength}
 use Rattle.emit.specs.Parts.{versions}
-use Rattle.emit.proofs.Parts.{length-versions, length-shape, length-padded}
+use Rattle.emit.proofs.Parts.{length-versions, length-shape}
+use Rattle.format.proofs.Stored.{length-padded}
 use Rattle.emit.proofs.put_fixed.Statement.{statement}
 use Rattle.emit.proofs.put_fixed.Tie as tie
 

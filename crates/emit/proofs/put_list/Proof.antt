@@ -1,5 +1,4 @@
--- `put_list` meets its contract. The loop's invariant: the first i values are spliced into the image. The measure is the values left.
--- Assumes nothing.
+-- The loop's invariant: the first i values are spliced into the image. The measure is the values left.
 use Prim.Native.Nat.{ℕ, _-_, _≤_}
 use mathlib.Core.List.{List}
 use mathlib.Core.Path.{_≡_, refl, ap, _∙_}
@@ -7,11 +6,11 @@ use native.Mathlib.Nat.{le-antisymm}
 use native.Mathlib.Omega.{arith}
 use borrow.Author.Needs.{needs}
 use lib.ListN.{length, getD}
-use Rattle.endian.specs.Below.{joinBelow}
+use Rattle.lists.specs.Below.{joinBelow}
 use Rattle.endian.specs.Number.{digits}
-use Rattle.endian.specs.Splice.{splice}
+use Rattle.lists.specs.Splice.{splice}
 use Rattle.endian.proofs.Number.{length-digits}
-use Rattle.endian.proofs.Splice.{join-none, join-then}
+use Rattle.lists.proofs.Splice.{join-none, join-then}
 use Rattle.emit.proofs.put_list.Statement.{statement}
 use Rattle.emit.proofs.put_list.Tie as tie
 

@@ -1,11 +1,11 @@
--- `put_prefix` meets its contract: the prefix into the part from 52 on, and zeros from where it ends.
+-- The prefix into the part from 52 on, and zeros from where it ends.
 use Prim.Native.Nat.{_+_, _-_}
 use mathlib.Core.Path.{_≡_, refl}
 use native.Mathlib.Omega.{arith}
 use lib.ListN.{length, replicate, length-replicate}
 use borrow.Author.Needs.{needs}
-use Rattle.endian.proofs.Splice.{splice-part, put-first, put-then}
-use Rattle.meta.specs.Meta1.{prefixLength}
+use Rattle.lists.proofs.Splice.{splice-part, put-first, put-then}
+use Rattle.format.specs.Meta1.{prefixLength}
 use Rattle.emit.proofs.put_prefix.Statement.{statement}
 use Rattle.emit.proofs.put_prefix.Tie as tie
 

@@ -1,11 +1,11 @@
--- `put_shape` meets its contract: five stores, each where the last ended.
+-- Five stores, each where the last ended.
 use Prim.Native.Nat.{ℕ}
 use native.Mathlib.Omega.{arith}
 use lib.ListN.{replicate, length-replicate}
 use borrow.Author.Needs.{needs}
 use Rattle.endian.proofs.Number.{length-digits}
-use Rattle.endian.proofs.Splice.{put-first, put-then}
-use Rattle.meta.specs.Meta1.{fileCount, fileNumber}
+use Rattle.lists.proofs.Splice.{put-first, put-then}
+use Rattle.format.specs.Meta1.{fileCount, fileNumber}
 use Rattle.emit.specs.Parts.{shape}
 use Rattle.emit.proofs.put_shape.Statement.{statement}
 use Rattle.emit.proofs.put_shape.Tie as tie

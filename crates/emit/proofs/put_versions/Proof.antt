@@ -1,4 +1,4 @@
--- `put_versions` meets its contract: five stores, each where the last ended.
+-- Five stores, each where the last ended.
 use mathlib.Core.Path.{refl, _∙_}
 use native.Mathlib.Omega.{arith}
 use mir.Syntax.{w32}
@@ -6,8 +6,8 @@ use borrow.Author.Needs.{needs}
 use Rattle.endian.specs.Number.{digits}
 use Rattle.endian.specs.Signed.{signedDigits}
 use Rattle.endian.proofs.Number.{length-digits}
-use Rattle.endian.proofs.Splice.{put-first, put-then}
-use Rattle.meta.specs.Meta1.{mark, orderNumber, formatVersion}
+use Rattle.lists.proofs.Splice.{put-first, put-then}
+use Rattle.format.specs.Meta1.{magic, orderNumber, formatVersion}
 use Rattle.emit.specs.Parts.{versions}
 use Rattle.emit.proofs.Parts.{store-signed}
 use Rattle.emit.proofs.put_versions.Statement.{statement}
@@ -46,7 +46,7 @@ returns c =
     let a = z .args in
     let xs = a .image .now in
     let wide = length-digits (a .big) 4 in
-    let marked = put-first xs 0 mark 4 refl (first .copy-in .ensures) in
+    let marked = put-first xs 0 magic 4 refl (first .copy-in .ensures) in
     let ordered = put-then xs 0 _ (digits (a .big) 4 orderNumber) 4 marked (wide _) (second .put-u32 .ensures) (omega (arith, z .pre)) in
     let version =
     put-then xs 0 _ (signedDigits (a .big) 4 (a .version)) 4 ordered (wide _)

@@ -1,11 +1,11 @@
--- `put_zeros` meets its contract: the part from `from` up to `to`, replaced whole.
+-- The part from `from` up to `to`, replaced whole.
 use Prim.Native.Nat.{ℕ, _-_}
 use mathlib.Core.Path.{_≡_, ap, _∙_}
 use native.Mathlib.Omega.{arith}
 use lib.ListN.{length, take, drop, replicate, length-drop, length-replicate}
 use lib.Seq.{length-take-le}
 use borrow.Author.Needs.{needs}
-use Rattle.endian.proofs.Splice.{splice-whole}
+use Rattle.lists.proofs.Splice.{splice-whole}
 use Rattle.emit.proofs.put_zeros.Statement.{statement}
 use Rattle.emit.proofs.put_zeros.Tie as tie
 

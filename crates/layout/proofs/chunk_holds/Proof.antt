@@ -1,6 +1,5 @@
--- `layout::chunk_holds` meets its contract. Assumes nothing.
 use mathlib.Core.Path.{refl}
-use Rattle.layout.specs.Areas.{capacity}
+use Rattle.format.specs.Layout.{capacity}
 use Rattle.layout.proofs.chunk_holds.Statement.{statement}
 use Rattle.layout.proofs.chunk_holds.Tie as tie
 

@@ -1,9 +1,9 @@
--- `layout::chunk_start` meets its contract: the start of the data, the tasks before and the rounds before are each small. Assumes nothing.
+-- The start of the data, the tasks before and the rounds before are each small.
 use Prim.Native.Nat.{_-_}
 use native.Mathlib.Omega.{arith}
 use borrow.Author.Needs.{needs}
-use Rattle.layout.specs.Areas.{chunkStart}
-use Rattle.layout.proofs.Bounds.{sound-fewer, dataStart-small, extendedBefore-small, rounds-small}
+use Rattle.format.specs.Layout.{chunkStart}
+use Rattle.format.proofs.Bounds.{sound-fewer, dataStart-small, extendedBefore-small, rounds-small}
 use Rattle.layout.proofs.chunk_start.Statement.{statement}
 use Rattle.layout.proofs.chunk_start.Tie as tie
 

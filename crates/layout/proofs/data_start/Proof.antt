@@ -1,8 +1,8 @@
--- `layout::data_start` meets its contract: META1's end is small enough to be rounded. Assumes nothing.
+-- META1's end is small enough to be rounded.
 use mathlib.Core.Path.{_∙_, ap}
 use native.Mathlib.Omega.{arith}
 use borrow.Author.Needs.{needs}
-use Rattle.layout.specs.Areas.{meta1End, roundUp, dataStart}
+use Rattle.format.specs.Layout.{meta1End, roundUp, dataStart}
 use Rattle.layout.proofs.data_start.Statement.{statement}
 use Rattle.layout.proofs.data_start.Tie as tie
 

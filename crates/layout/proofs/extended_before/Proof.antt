@@ -1,14 +1,13 @@
--- `layout::extended_before` meets its contract. The loop's invariant: `sum` is what the tasks passed add up to. The measure is the
--- tasks left. Assumes nothing.
+-- The loop's invariant: `sum` is what the tasks passed add up to. The measure is the tasks left.
 use Prim.Native.Nat.{_≤_, _-_}
 use mathlib.Core.Path.{_≡_, ap, sym, _∙_}
 use native.Mathlib.Nat.{le-antisymm}
 use native.Mathlib.Omega.{arith}
 use borrow.Author.Needs.{needs}
 use lib.ListN.{getD}
-use Rattle.layout.specs.Areas.{extendedBefore}
-use Rattle.layout.proofs.Bounds.{sound-size, extendedBefore-small}
-use Rattle.layout.proofs.Chunks.{extendedBefore-none, extendedBefore-more, extendedBefore-step}
+use Rattle.format.specs.Layout.{extendedBefore}
+use Rattle.format.proofs.Bounds.{sound-size, extendedBefore-small}
+use Rattle.format.proofs.Chunks.{extendedBefore-none, extendedBefore-more, extendedBefore-step}
 use Rattle.layout.proofs.extended_before.Statement.{statement}
 use Rattle.layout.proofs.extended_before.Tie as tie
 

@@ -1,6 +1,5 @@
--- `layout::extended_size` meets its contract. Assumes nothing.
 use borrow.Author.Needs.{needs}
-use Rattle.layout.specs.Areas.{extended}
+use Rattle.format.specs.Layout.{extended}
 use Rattle.layout.proofs.extended_size.Statement.{statement}
 use Rattle.layout.proofs.extended_size.Tie as tie
 

@@ -1,6 +1,5 @@
--- `layout::global_skip` meets its contract. Assumes nothing.
 use borrow.Author.Needs.{needs}
-use Rattle.layout.specs.Areas.{globalskip}
+use Rattle.format.specs.Layout.{globalskip}
 use Rattle.layout.proofs.global_skip.Statement.{statement}
 use Rattle.layout.proofs.global_skip.Tie as tie
 

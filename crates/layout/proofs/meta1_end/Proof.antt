@@ -1,6 +1,5 @@
--- `layout::meta1_end` meets its contract. Assumes nothing.
 use borrow.Author.Needs.{needs}
-use Rattle.layout.specs.Areas.{meta1End}
+use Rattle.format.specs.Layout.{meta1End}
 use Rattle.layout.proofs.meta1_end.Statement.{statement}
 use Rattle.layout.proofs.meta1_end.Tie as tie
 

@@ -1,8 +1,8 @@
--- `layout::meta2_end` meets its contract: META2's start and length add up to a small number. Assumes nothing.
+-- META2's start and length add up to a small number.
 use native.Mathlib.Omega.{arith}
 use borrow.Author.Needs.{needs}
-use Rattle.layout.specs.Areas.{meta2End}
-use Rattle.layout.proofs.Chunks.{meta2End-small}
+use Rattle.format.specs.Layout.{meta2End}
+use Rattle.format.proofs.Chunks.{meta2End-small}
 use Rattle.layout.proofs.meta2_end.Statement.{statement}
 use Rattle.layout.proofs.meta2_end.Tie as tie
 

@@ -1,9 +1,9 @@
--- `layout::meta2_length` meets its contract: the product is small. Assumes nothing.
+-- The product is small.
 use mathlib.Core.Path.{refl}
 use native.Mathlib.Omega.{arith}
 use borrow.Author.Needs.{needs}
-use Rattle.layout.specs.Areas.{meta2Length}
-use Rattle.layout.proofs.Bounds.{meta2Length-small}
+use Rattle.format.specs.Layout.{meta2Length}
+use Rattle.format.proofs.Bounds.{meta2Length-small}
 use Rattle.layout.proofs.meta2_length.Statement.{statement}
 use Rattle.layout.proofs.meta2_length.Tie as tie
 

@@ -1,8 +1,8 @@
--- `layout::meta2_start` meets its contract: the start of the data and the rounds of chunks are each small. Assumes nothing.
+-- The start of the data and the rounds of chunks are each small.
 use native.Mathlib.Omega.{arith}
 use borrow.Author.Needs.{needs}
-use Rattle.layout.specs.Areas.{meta2Start}
-use Rattle.layout.proofs.Bounds.{dataStart-small, rounds-small}
+use Rattle.format.specs.Layout.{meta2Start}
+use Rattle.format.proofs.Bounds.{dataStart-small, rounds-small}
 use Rattle.layout.proofs.meta2_start.Statement.{statement}
 use Rattle.layout.proofs.meta2_start.Tie as tie
 

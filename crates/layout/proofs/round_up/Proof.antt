@@ -1,11 +1,10 @@
--- `layout::round_up` meets its contract: blocksize is 2 to the number of its trailing zeros, so the shifts round by it, and nothing is
--- shifted out. Assumes nothing.
+-- Blocksize is 2 to the number of its trailing zeros, so the shifts round by it, and nothing is shifted out.
 use native.Mathlib.Omega.{arith}
 use borrow.Author.Needs.{needs}
 use lib.Count.{trailingZeros, trailing-le}
-use Rattle.layout.proofs.Bounds.{roundUp-small}
-use Rattle.layout.proofs.Power.{blocksize-facts, blocksize-power}
-use Rattle.layout.proofs.Rounding.{roundUp-shifts}
+use Rattle.format.proofs.Bounds.{roundUp-small}
+use Rattle.format.proofs.Power.{blocksize-facts, blocksize-power}
+use Rattle.format.proofs.Rounding.{roundUp-shifts}
 use Rattle.layout.proofs.round_up.Statement.{statement}
 use Rattle.layout.proofs.round_up.Tie as tie
 

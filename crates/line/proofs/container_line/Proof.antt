@@ -1,12 +1,12 @@
--- `line::container_line` meets its contract: the refusal, and after an accepted load n, maxchunks and the totals behind it. Assumes nothing.
+-- The refusal, and after an accepted load n, maxchunks and the totals behind it.
 use mathlib.Core.List.{_∷_}
 use Prim.Native.Nat.{_<_}
 use native.Mathlib.Omega.{arith}
 use lib.IntN.{pos}
 use lib.ListN.{replicate}
-use Rattle.reading.specs.Reads.{containerOf}
-use Rattle.line.specs.Line.{cells, decimal, space, spaced, room, totalsOf}
-use Rattle.endian.proofs.Splice.{put-next}
+use Rattle.format.specs.Reads.{containerOf}
+use Rattle.format.specs.Line.{cells, decimal, space, spaced, lineRoom, totalsOf}
+use Rattle.lists.proofs.Splice.{put-next}
 use Rattle.line.proofs.Whole.{few-tasks, line-put, refused-line, accepted-line}
 use borrow.Author.Needs.{needs}
 use Rattle.line.proofs.container_line.Statement.{statement}
@@ -90,7 +90,7 @@ returns-2 c =
     let l = j .result .loaded in
     let few = few-tasks (a .image .now) (replicate cells (pos 0)) (j .result) (j .ensures .0) (e .if1 .left) in
     let given = e .before .before .put-number-arg .given in
-    let fits : s .result < room = omega (arith, p .ensures .1 .1, r .ensures .1 .1, q .ensures .1 .1, s .ensures .1 .1) in
+    let fits : s .result < lineRoom = omega (arith, p .ensures .1 .1, r .ensures .1 .1, q .ensures .1 .1, s .ensures .1 .1) in
     let first-two =
     put-next (a .out .now) 0 (decimal (j .result .refusal)) (space ∷ decimal (l .head .n)) (p .ensures .0, p .ensures .1 .0)
     (r .ensures .0, r .ensures .1 .0) (omega arith) in

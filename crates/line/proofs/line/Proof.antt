@@ -1,10 +1,10 @@
--- `line::line` meets its contract: `long`, or the line about a container. Assumes nothing.
+-- `long`, or the line about a container.
 use mathlib.Core.Path.{sym, ap, _∙_}
 use Prim.Native.Nat.{_<_}
 use native.Mathlib.Omega.{arith}
 use borrow.Author.Needs.{needs}
 use lib.ListN.{length}
-use Rattle.endian.specs.Splice.{splice}
+use Rattle.lists.specs.Splice.{splice}
 use Rattle.io.proofs.Counting.{counts}
 use Rattle.line.proofs.Whole.{long-line, short-line}
 use Rattle.line.proofs.line.Statement.{statement}

@@ -1,14 +1,13 @@
--- `line::put_number` meets its contract: the digits stand in a text of their own, and their copy behind the first `at` bytes is a splice
--- of the whole. Assumes nothing.
+-- The digits stand in a text of their own, and their copy behind the first `at` bytes is a splice of the whole.
 use mathlib.Core.Path.{sym, ap, _∙_}
 use Prim.Native.Nat.{ℕ, _+_, _-_, _^_, _<_}
 use native.Mathlib.Omega.{arith}
 use borrow.Author.Needs.{needs}
 use lib.ListN.{length, take, drop, length-drop}
 use lib.Seq.{length-take-le}
-use Rattle.endian.specs.Splice.{splice}
-use Rattle.endian.proofs.Splice.{splice-part}
-use Rattle.line.specs.Line.{widest, decimal}
+use Rattle.lists.specs.Splice.{splice}
+use Rattle.lists.proofs.Splice.{splice-part}
+use Rattle.format.specs.Line.{widest, decimal}
 use Rattle.line.proofs.Decimal.{decimal-few, decimal-is, decimal-length}
 use Rattle.line.proofs.put_number.Statement.{statement}
 use Rattle.line.proofs.put_number.Tie as tie

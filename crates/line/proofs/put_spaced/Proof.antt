@@ -1,10 +1,10 @@
--- `line::put_spaced` meets its contract: a space, and the number behind it. Assumes nothing.
+-- A space, and the number behind it.
 use mathlib.Core.Path.{_≡_, _∙_}
 use Prim.Native.Nat.{ℕ, suc, _+_}
 use native.Mathlib.Omega.{arith}
 use borrow.Author.Needs.{needs}
 use lib.ListN.{length, length-set}
-use Rattle.line.specs.Line.{decimal}
+use Rattle.format.specs.Line.{decimal}
 use Rattle.line.proofs.Text.{behind-space}
 use Rattle.line.proofs.put_spaced.Statement.{statement}
 use Rattle.line.proofs.put_spaced.Tie as tie

@@ -1,16 +1,15 @@
--- `line::put_totals` meets its contract: before each turn the totals of the first i tasks were put at `at`, each behind a space.
--- Assumes nothing.
+-- Before each turn the totals of the first i tasks were put at `at`, each behind a space.
 use mathlib.Core.Path.{_≡_, refl, sym, ap, _∙_}
 use mathlib.Core.List.{_∷_, _++_}
 use Prim.Native.Nat.{ℕ, _+_, _-_, _*_, _≤_}
 use native.Mathlib.Nat.{le-antisymm}
 use native.Mathlib.Omega.{arith}
 use lib.ListN.{length}
-use Rattle.endian.specs.Below.{listBelow, joinBelow}
-use Rattle.reading.specs.declared.record.ByteCount.{ByteCount}
-use Rattle.reading.specs.Reads.{Container, containerOf, totalAnswer}
-use Rattle.line.specs.Line.{space, decimal, spaced, totalsOf}
-use Rattle.endian.proofs.Splice.{Put, put-none, put-is, put-next}
+use Rattle.lists.specs.Below.{listBelow, joinBelow}
+use Rattle.format.specs.declared.loaded.ByteCount.{ByteCount}
+use Rattle.format.specs.Reads.{Container, containerOf, totalAnswer}
+use Rattle.format.specs.Line.{space, decimal, spaced, totalsOf}
+use Rattle.lists.proofs.Splice.{Put, put-none, put-is, put-next}
 use Rattle.line.proofs.Text.{spaced-more}
 use borrow.Author.Needs.{needs}
 use Rattle.line.proofs.put_totals.Statement.{statement}

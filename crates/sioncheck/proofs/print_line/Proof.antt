@@ -1,4 +1,4 @@
--- `sioncheck::print_line` is safe: behind the line there is room for its end. Assumes nothing.
+-- `sioncheck::print_line` is safe: behind the line there is room for its end.
 use mathlib.Core.Path.{sym}
 use native.Mathlib.Omega.{arith}
 use borrow.Author.Needs.{needs}

@@ -1,4 +1,4 @@
--- `vectors::add` is safe, and the loop ends, since the bytes left get fewer. Assumes nothing.
+-- `vectors::add` is safe, and the loop ends, since the bytes left get fewer.
 use Prim.Native.Nat.{_≤_, _-_}
 use lib.ListN.{length}
 use borrow.Author.Needs.{needs}

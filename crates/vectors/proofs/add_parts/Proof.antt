@@ -1,4 +1,4 @@
--- `vectors::add_parts` is safe, and the loop ends, since the chunk number grows to a bound. Assumes nothing.
+-- `vectors::add_parts` is safe, and the loop ends, since the chunk number grows to a bound.
 use Prim.Native.Nat.{_-_}
 use borrow.Author.Needs.{needs}
 use Rattle.vectors.proofs.add_parts.Statement.{statement}

@@ -1,4 +1,4 @@
--- `vectors::add_stream` is safe, and the loop ends, since the place grows to a bound. Assumes nothing.
+-- `vectors::add_stream` is safe, and the loop ends, since the place grows to a bound.
 use Prim.Native.Nat.{_-_}
 use borrow.Author.Needs.{needs}
 use Rattle.vectors.proofs.add_stream.Statement.{statement}

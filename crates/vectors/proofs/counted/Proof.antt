@@ -1,4 +1,3 @@
--- `vectors::counted` meets its contract. Assumes nothing.
 use native.Mathlib.Nat.{le-refl, le-of-lt}
 use lib.ListN.{length}
 use Rattle.io.proofs.Counting.{counts}

@@ -1,4 +1,4 @@
--- `vectors::main` is safe, and the loop ends, since the arguments left get fewer. Assumes nothing.
+-- `vectors::main` is safe, and the loop ends, since the arguments left get fewer.
 use Prim.Native.Nat.{_-_}
 use borrow.Author.Needs.{needs}
 use Rattle.vectors.proofs.main.Statement.{statement}

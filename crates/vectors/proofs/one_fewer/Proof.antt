@@ -1,4 +1,4 @@
--- `vectors::one_fewer` is safe: two numbers of 32 bits have a product of 64. Assumes nothing.
+-- `vectors::one_fewer` is safe: two numbers of 32 bits have a product of 64.
 use Prim.Native.Nat.{_≤_}
 use native.Mathlib.Nat.{mul-le-mul}
 use native.Mathlib.Omega.{arith}

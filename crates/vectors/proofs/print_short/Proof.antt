@@ -1,4 +1,4 @@
--- `vectors::print_short` is safe: the part of the table is as long as its count. Assumes nothing.
+-- `vectors::print_short` is safe: the part of the table is as long as its count.
 use mathlib.Core.Path.{sym}
 use borrow.Author.Needs.{needs}
 use lib.Seq.{length-take-le}

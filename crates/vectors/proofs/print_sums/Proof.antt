@@ -1,4 +1,4 @@
--- `vectors::print_sums` is safe, and the loop ends, since the tasks left get fewer. Assumes nothing.
+-- `vectors::print_sums` is safe, and the loop ends, since the tasks left get fewer.
 use Prim.Native.Nat.{_-_}
 use borrow.Author.Needs.{needs}
 use Rattle.vectors.proofs.print_sums.Statement.{statement}

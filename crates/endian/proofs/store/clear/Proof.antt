@@ -1,4 +1,4 @@
--- `store::clear` meets its contract: before each turn the first i bytes of part are zeros.
+-- Before each turn the first i bytes of part are zeros.
 use mathlib.Core.Path.{_≡_, refl, sym, ap, _∙_}
 use mathlib.Core.List.{List}
 use Prim.Native.Nat.{ℕ, _+_, _-_, _<_, _≤_}

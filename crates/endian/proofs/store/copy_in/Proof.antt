@@ -1,4 +1,4 @@
--- `store::copy_in` meets its contract: before each turn the first i bytes of src are pasted into part, and the rest of part is as it was.
+-- Before each turn the first i bytes of src are pasted into part, and the rest of part is as it was.
 use mathlib.Core.Path.{_≡_, refl, subst}
 use mathlib.Core.List.{List}
 use Prim.Native.Nat.{ℕ, suc, _+_, _-_, _<_, _≤_}
@@ -8,7 +8,7 @@ use native.Mathlib.Omega.{arith}
 use lib.ListN.{length, getD, set}
 use lib.Seq.{paste, paste-zero, paste-suc, take-length}
 use borrow.Author.Needs.{needs}
-use Rattle.endian.specs.Splice.{splice}
+use Rattle.lists.specs.Splice.{splice}
 use Rattle.endian.proofs.store.copy_in.Statement.{statement}
 use Rattle.endian.proofs.store.copy_in.Tie as tie
 

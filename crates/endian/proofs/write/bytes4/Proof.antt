@@ -1,4 +1,4 @@
--- `write::bytes4` meets its contract, in either order.
+-- In either order.
 use borrow.Author.Needs.{needs}
 use Rattle.endian.proofs.write.bytes4.Statement.{statement}
 use Rattle.endian.proofs.write.bytes4.Tie as tie

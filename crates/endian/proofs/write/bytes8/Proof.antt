@@ -1,4 +1,4 @@
--- `write::bytes8` meets its contract, in either order.
+-- In either order.
 use borrow.Author.Needs.{needs}
 use Rattle.endian.proofs.write.bytes8.Statement.{statement}
 use Rattle.endian.proofs.write.bytes8.Tie as tie

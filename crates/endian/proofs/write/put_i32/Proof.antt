@@ -1,4 +1,4 @@
--- `write::put_i32` meets its contract: the bits of the integer, stored as an unsigned number.
+-- The bits of the integer, stored as an unsigned number.
 use mathlib.Core.Path.{ap, _∙_}
 use mir.Facts.{toZ-ofZ}
 use borrow.Author.Needs.{needs}

@@ -1,13 +1,13 @@
--- `write::put_u64` meets its contract: the copy of the 8 bytes into the part from `at` on is a splice of the whole.
+-- The copy of the 8 bytes into the part from `at` on is a splice of the whole.
 use mathlib.Core.Path.{ap, _∙_}
 use Prim.Native.Nat.{_-_}
 use native.Mathlib.Omega.{arith}
 use lib.ListN.{length, take, drop}
 use borrow.Author.Needs.{needs}
 use Rattle.endian.specs.Number.{digits}
-use Rattle.endian.specs.Splice.{splice}
+use Rattle.lists.specs.Splice.{splice}
 use Rattle.endian.proofs.Number.{length-digits}
-use Rattle.endian.proofs.Splice.{splice-part}
+use Rattle.lists.proofs.Splice.{splice-part}
 use Rattle.endian.proofs.write.put_u64.Statement.{statement}
 use Rattle.endian.proofs.write.put_u64.Tie as tie
 

@@ -1,0 +1,73 @@
+-- Every promise holds.
+use mathlib.Core.Path.{_≡_, sym, _∙_}
+use mathlib.Core.List.{List}
+use Prim.Native.Nat.{ℕ}
+use lib.IntN.{ℤ}
+use lib.ListN.{length}
+use Rattle.format.specs.Open.{Opening, openRefusal}
+use Rattle.container.specs.Start.{Opens}
+use Rattle.container.specs.Refusing.{Refusals}
+use Rattle.container.specs.Main.{Promises}
+use Rattle.format.proofs.Only.{only}
+use Rattle.format.proofs.Every.{every, says}
+use Rattle.container.proofs.Refusing.{load-number, load-refuses, chunk-refuses, chunk-judged, part-number, part-refuses, part-there, total-refuses, total-judged, read-refuses, read-judged, open-number, needs-refuses, needs-says, open-refuses, write-refuses, write-judged, close-refuses, close-judged, flag-ends}
+use Rattle.format.proofs.Outcomes.{empty-keeps}
+use Rattle.container.proofs.ReadsBack.{reads-back, refuses-back}
+use Rattle.container.proofs.Opens.{opens-exactly}
+use Rattle.container.proofs.Stores.{opening-stores, close-stores, closed-ends}
+use Rattle.container.proofs.Starts.{is-start, has-front}
+use Rattle.container.proofs.WrittenBack.{written-back}
+use Rattle.container.proofs.Rooms.{room, alike}
+use Rattle.container.proofs.Finished.{finished}
+
+refusals : Refusals
+refusals = record {
+  load-refuses = load-refuses;
+  chunk-refuses = chunk-refuses;
+  part-refuses = part-refuses;
+  total-refuses = total-refuses;
+  read-refuses = read-refuses;
+  needs-refuses = needs-refuses;
+  open-refuses = open-refuses;
+  write-refuses = write-refuses;
+  close-refuses = close-refuses;
+  chunk-judged = chunk-judged;
+  total-judged = total-judged;
+  read-judged = read-judged;
+  write-judged = write-judged;
+  close-judged = close-judged;
+  part-number = part-number;
+  needs-says = needs-says;
+  empty-write = empty-keeps;
+  flag-ends = flag-ends;
+  closed-ends = closed-ends;
+}
+
+-- an opening's answer is the number of its tests
+opens : (o : Opening) (image : List ℕ) (table : List ℤ) → Opens o image table → openRefusal o (length image) (length table) ≡ 0
+opens o image table e = sym (open-number o image table) ∙ e
+
+pub promises : Promises
+promises = record {
+  refusals = refusals;
+  accepts-exactly =
+      λ image table. record {
+        only = λ e. only image (length table) (sym (load-number image table) ∙ e);
+        every = λ c room. load-number image table ∙ every image (c .says) (c .first) (c .second) (length table) room;
+        says = λ c e. says image (c .says) (c .first) (c .second) table (sym (load-number image table) ∙ e);
+      };
+  reads-back = λ image table c e.
+      let zero = sym (load-number image table) ∙ e in (
+        reads-back image (c .says) (c .first) (c .second) table zero,
+        refuses-back image (c .says) (c .first) (c .second) table zero,
+      );
+  part-there = part-there;
+  opens-exactly = opens-exactly;
+  opening-stores = opening-stores;
+  close-stores = close-stores;
+  finished = λ o image table qs e. finished o image table qs (opens o image table e);
+  written-back = written-back;
+  room = room;
+  alike = alike;
+  starts = λ o image table e. (is-start o image table (opens o image table e), has-front o image table (opens o image table e));
+}

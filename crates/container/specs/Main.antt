@@ -1,0 +1,38 @@
+-- All that is promised, over every image, table, record, opening and list of requests: one field for each promise.
+use mathlib.Core.Path.{_≡_}
+use mathlib.Core.List.{List}
+use Prim.Native.Nat.{ℕ, _-_}
+use lib.IntN.{ℤ}
+use Rattle.format.specs.Session.{State}
+use Rattle.format.specs.Open.{Opening}
+use Rattle.format.specs.Write.{Request, refusals}
+use Rattle.format.specs.Close.{maxchunksUsed, closeAnswer}
+use Rattle.format.specs.Container.{IsContainer}
+use Rattle.format.specs.Load.{loadAnswer}
+use Rattle.format.specs.Reads.{Container, loadedFrom}
+use Rattle.container.specs.Start.{Start, IsStart, HasFront, VersionsFit, Opens, openedStart, after, mostBegun}
+use Rattle.container.specs.Refusing.{Refusals}
+use Rattle.container.specs.Format.{AcceptsExactly, PartThere, ReadsBack, RefusesBack, OpensExactly, OpeningStores, CloseStores}
+use Rattle.container.specs.WrittenBack.{Finished, WrittenBack}
+use Rattle.container.specs.Room.{Claim, Alike}
+
+pub record Promises : Type 0 where
+  -- demand 1: any bytes and any request
+  pub refusals : Refusals
+  -- demand 2: exactly the format
+  pub accepts-exactly : (image : List ℕ) → (table : List ℤ) → AcceptsExactly image table
+  pub reads-back : (image : List ℕ) → (table : List ℤ) → (c : IsContainer image) → loadAnswer image table .refusal ≡ 0
+      → ReadsBack image (c .says) (loadedFrom image table) × RefusesBack (c .says) (loadedFrom image table)
+  pub part-there : (c : Container) → (task chunk : ℕ) → PartThere c task chunk
+  pub opens-exactly : (o : Opening) → (image : List ℕ) → (table : List ℤ) → OpensExactly o image table
+  pub opening-stores : (o : Opening) → (image : List ℕ) → (table : List ℤ) → Opens o image table → OpeningStores o image table
+  pub close-stores : (st : State) → closeAnswer st .refusal ≡ 0 → CloseStores st (maxchunksUsed st)
+  pub finished : (o : Opening) → (image : List ℕ) → (table : List ℤ) → (qs : List Request) → Opens o image table
+      → Finished o image table qs (after (openedStart o image table) qs) (mostBegun (openedStart o image table) qs)
+  pub written-back : (s : Start) → IsStart s → HasFront s → VersionsFit (s .plan) → (qs : List Request) → WrittenBack s qs
+  -- demand 3: a task can count on its room
+  pub room : (s : Start) → IsStart s → (qs : List Request) → Claim s qs
+  pub alike : (s t : Start) → IsStart s → IsStart t → s .plan ≡ t .plan → s .book ≡ t .book → Alike s t
+  -- an accepted opening gives a start
+  pub starts : (o : Opening) → (image : List ℕ) → (table : List ℤ) → Opens o image table
+      → IsStart (openedStart o image table) × HasFront (openedStart o image table)

@@ -1,0 +1,130 @@
+-- Demand 1: every entry answers 0 or one of its own numbers, a refused call changes nothing, and 17, 18 and 19 are given exactly where a record
+-- breaks a fact, is lent too little, or has a cell that breaks its rule.
+use mathlib.Core.Path.{_≡_}
+use mathlib.Core.List.{List, [], _∷_}
+use mathlib.Core.Logic.{_⊎_}
+use Prim.Native.Nat.{ℕ, _-_, _≤_, _<_}
+use lib.IntN.{ℤ}
+use lib.ListN.{length, replicate}
+use Rattle.format.specs.Record.{noLists}
+use Rattle.format.specs.declared.session.Session.{Session}
+use Rattle.format.specs.Session.{State, stateOf, noSession}
+use Rattle.format.specs.Open.{Opening, needsAnswer, openAnswer, openImage, openTable}
+use Rattle.format.specs.Write.{Request, writeRefusal, afterWrite, writes, refusals}
+use Rattle.format.specs.Close.{closeAnswer, closeImage}
+use Rattle.format.specs.declared.loaded.Loaded.{Loaded}
+use Rattle.format.specs.Loaded.{noLoaded}
+use Rattle.format.specs.Accepted.{LoadedJudged, SessionJudged}
+use Rattle.format.specs.Load.{loadAnswer, loadTable}
+use Rattle.format.specs.Reads.{Container, chunkRefusal, chunkPart, partAnswer, totalAnswer, readAnswer, readOutput}
+use Rattle.lists.specs.Logic.{OneOf, Not}
+
+-- said once for any entry: its numbers, its answer, and what the call leaves, which after a refusal is what came, with zeros for what is handed back
+pub record Refuses {A : Type 0} (numbers : List ℕ) (answer : ℕ) (left refused : A) : Type 0 where
+  pub numbered : OneOf (0 ∷ numbers) answer
+  pub moves-nothing : 0 < answer → left ≡ refused
+
+-- the numbers that document 01 lists for an entry, in its order of tests
+abbrev pub loadNumbers : List ℕ
+loadNumbers = 1 ∷ 2 ∷ 3 ∷ 4 ∷ 5 ∷ 6 ∷ 7 ∷ 8 ∷ 9 ∷ 10 ∷ 11 ∷ 12 ∷ 18 ∷ 13 ∷ []
+
+abbrev pub chunkNumbers : List ℕ
+chunkNumbers = 17 ∷ 18 ∷ 19 ∷ 14 ∷ 22 ∷ []
+
+abbrev pub readNumbers : List ℕ
+readNumbers = 17 ∷ 18 ∷ 19 ∷ 14 ∷ 23 ∷ []
+
+abbrev pub totalNumbers : List ℕ
+totalNumbers = 17 ∷ 18 ∷ 19 ∷ 14 ∷ []
+
+abbrev pub openNumbers : List ℕ
+openNumbers = 2 ∷ 5 ∷ 6 ∷ 21 ∷ 8 ∷ 9 ∷ 20 ∷ 18 ∷ []
+
+-- of these, the numbers that it gets whatever it is lent
+abbrev pub needsNumbers : List ℕ
+needsNumbers = 2 ∷ 5 ∷ 6 ∷ 21 ∷ 8 ∷ 9 ∷ 20 ∷ []
+
+abbrev pub writeNumbers : List ℕ
+writeNumbers = 17 ∷ 18 ∷ 19 ∷ 14 ∷ 15 ∷ 16 ∷ []
+
+abbrev pub closeNumbers : List ℕ
+closeNumbers = 17 ∷ 18 ∷ 19 ∷ []
+
+-- ---- each entry: a record of zeros marked closed, lengths and counts of 0, an empty part, and all lent memory as it came
+
+abbrev pub LoadRefuses : List ℕ → List ℤ → Type 0
+LoadRefuses image table =
+    let a = loadAnswer image table in
+    Refuses {A = Loaded × List ℕ × List ℤ} loadNumbers (a .refusal) (a .loaded, a .lists, loadTable image table) (noLoaded, noLists, table)
+
+abbrev pub ChunkRefuses : Container → ℕ → ℕ → Type 0
+ChunkRefuses c task chunk = Refuses chunkNumbers (chunkRefusal c task chunk) (chunkPart c task chunk) []
+
+abbrev pub PartRefuses : Container → ℕ → ℕ → Type 0
+PartRefuses c task chunk =
+    let a = partAnswer c task chunk in Refuses {A = ℕ × ℕ} chunkNumbers (a .refusal) (a .start, a .length) (0, 0)
+
+abbrev pub TotalRefuses : Container → ℕ → Type 0
+TotalRefuses c task = Refuses totalNumbers (totalAnswer c task .refusal) (totalAnswer c task .bytes) 0
+
+abbrev pub ReadRefuses : Container → ℕ → ℕ → List ℕ → Type 0
+ReadRefuses c task p out =
+    let a = readAnswer c task p out in Refuses {A = ℕ × List ℕ} readNumbers (a .refusal) (a .bytes, readOutput c task p out) (0, out)
+
+abbrev pub NeedsRefuses : Opening → Type 0
+NeedsRefuses o = let a = needsAnswer o in Refuses {A = ℕ × ℕ} needsNumbers (a .refusal) (a .image, a .cells) (0, 0)
+
+abbrev pub OpenRefuses : Opening → List ℕ → List ℤ → Type 0
+OpenRefuses o image table =
+    let a = openAnswer o image table in
+    Refuses {A = Session × List ℕ × List ℕ × List ℤ} openNumbers (a .refusal)
+    (a .session, a .lists, openImage o image table, openTable o image table) (noSession, noLists, image, table)
+
+abbrev pub WriteRefuses : State → Request → Type 0
+WriteRefuses st q = Refuses writeNumbers (writeRefusal st q) (afterWrite st q) st
+
+abbrev pub CloseRefuses : State → Type 0
+CloseRefuses st =
+    let a = closeAnswer st in
+    Refuses {A = Session × ℕ × List ℕ} closeNumbers (a .refusal) (a .session, a .length, closeImage st) (st .session, 0, st .image)
+
+-- what an opening needs says just how the opening is answered, whatever that is lent
+pub record NeedsSays (o : Opening) (image : List ℕ) (table : List ℤ) : Type 0 where
+  pub refused : 0 < needsAnswer o .refusal → openAnswer o image table .refusal ≡ needsAnswer o .refusal
+  pub short : needsAnswer o .refusal ≡ 0 → (length image < needsAnswer o .image) ⊎ (length table < needsAnswer o .cells)
+      → openAnswer o image table .refusal ≡ 18
+  pub enough : needsAnswer o .refusal ≡ 0 → needsAnswer o .image ≤ length image → needsAnswer o .cells ≤ length table
+      → openAnswer o image table .refusal ≡ 0
+
+-- the end of a session: every write and every close answers 17, and it stays as it is
+pub record Ended (st : State) : Type 0 where
+  pub no-write : (qs : List Request) → refusals st qs ≡ replicate (length qs) 17
+  pub stays : (qs : List Request) → writes st qs ≡ st
+  pub no-close : closeAnswer st .refusal ≡ 17
+
+-- a session as a close leaves it
+abbrev pub afterClose : State → State
+afterClose st = stateOf (closeAnswer st .session) (st .lists) (closeImage st) (st .table)
+
+pub record Refusals : Type 0 where
+  pub load-refuses : (image : List ℕ) → (table : List ℤ) → LoadRefuses image table
+  pub chunk-refuses : (c : Container) → (task chunk : ℕ) → ChunkRefuses c task chunk
+  pub part-refuses : (c : Container) → (task chunk : ℕ) → PartRefuses c task chunk
+  pub total-refuses : (c : Container) → (task : ℕ) → TotalRefuses c task
+  pub read-refuses : (c : Container) → (task p : ℕ) → (out : List ℕ) → ReadRefuses c task p out
+  pub needs-refuses : (o : Opening) → NeedsRefuses o
+  pub open-refuses : (o : Opening) → (image : List ℕ) → (table : List ℤ) → OpenRefuses o image table
+  pub write-refuses : (st : State) → (q : Request) → WriteRefuses st q
+  pub close-refuses : (st : State) → CloseRefuses st
+  -- 17, 18 and 19
+  pub chunk-judged : (c : Container) → (task chunk : ℕ) → LoadedJudged c (chunkRefusal c task chunk)
+  pub total-judged : (c : Container) → (task : ℕ) → LoadedJudged c (totalAnswer c task .refusal)
+  pub read-judged : (c : Container) → (task p : ℕ) → (out : List ℕ) → LoadedJudged c (readAnswer c task p out .refusal)
+  pub write-judged : (st : State) → (q : Request) → SessionJudged st (writeRefusal st q)
+  pub close-judged : (st : State) → SessionJudged st (closeAnswer st .refusal)
+  -- what ties one answer to another
+  pub part-number : (c : Container) → (task chunk : ℕ) → partAnswer c task chunk .refusal ≡ chunkRefusal c task chunk
+  pub needs-says : (o : Opening) → (image : List ℕ) → (table : List ℤ) → NeedsSays o image table
+  pub empty-write : (st : State) → (q : Request) → length (q .bytes) ≡ 0 → afterWrite st q ≡ st
+  pub flag-ends : (st : State) → Not (st .session .closed ≡ 0) → Ended st
+  pub closed-ends : (st : State) → closeAnswer st .refusal ≡ 0 → Ended (afterClose st)

@@ -1,0 +1,194 @@
+-- The tests of META1 and of META2 as facts: what holds of the fields where all of them pass, and that they pass where it holds.
+use mathlib.Core.Path.{_≡_, refl, sym, ap, ap₂, _∙_}
+use mathlib.Core.Bool.{Bool, true, false, not, _&&_, _||_, or-true, or-false}
+use mathlib.Core.List.{List}
+use Prim.Native.Nat.{ℕ, _≤_, _<_}
+use native.Mathlib.Nat.{le-refl}
+use native.Mathlib.Omega.{arith}
+use lib.Dec.{ltb}
+use lib.IntN.{ℤ, pos}
+use lib.ListN.{length, take, getD}
+use lib.Seq.{length-take-le, getD-take, ext-getD}
+use borrow.Author.Tests.{ltb-false, le-ltb, eqb-true, eq-eqb, not-false}
+use Rattle.endian.specs.Number.{numberAt}
+use Rattle.endian.specs.Signed.{signBit, natural}
+use Rattle.lists.proofs.Below.{and-left, and-right, or-left, or-right, or-both, all-at, all-of}
+use Rattle.endian.proofs.Number.{one-order}
+use Rattle.endian.proofs.Signed.{InRange, signed-pos, within-one, within-natural, within-holds, within-over}
+use Rattle.format.specs.Limits.{maxTasks, minBlocksize, maxBlocksize, maxRank, maxSize, maxBlocks, blocksizeRule, tasksRule, ranksRule, sizesRule, maxchunksRule}
+use Rattle.format.specs.Layout.{meta1End, meta2Start}
+use Rattle.format.proofs.Chunks.{meta1-before-data}
+use Rattle.format.specs.declared.head.Head.{Head}
+use Rattle.format.specs.Refusals.{firstFailing}
+use Rattle.format.specs.Meta1
+use Rattle.format.specs.Meta2
+use Rattle.format.specs.Record.{isBig, holds, meta2At, endAt}
+use Rattle.format.specs.Judge.{is, magicIn, bigIn, orderedIn, tasksIn, maxchunksIn, headIn, sizeIn, meta2In, startTests, fieldTests, fixedTests, listTests, lastTests, restTests, meta1Tests, countIn, meta2Tests}
+use Rattle.format.proofs.Refusals.{Numbered, none-fails, all-pass}
+use Rattle.format.proofs.Rules.{blocksize-natural, tasks-natural, ranks-within, sizes-within}
+
+is-refl : (v : ℕ) → is v (pos v) ≡ true
+is-refl v = within-holds v v v (le-refl v) (le-refl v)
+
+-- ---- META1
+
+-- xs are the image's first bytes, and `len` is the length of the whole
+pub record Meta1Holds (xs : List ℕ) (len : ℕ) : Type 0 where
+  pub magic-is : magicIn xs ≡ true
+  pub order-is : Meta1.orderField (bigIn xs) xs ≡ pos Meta1.orderNumber
+  pub format-is : Meta1.formatField (bigIn xs) xs ≡ pos Meta1.formatVersion
+  pub blocksize : blocksizeRule (Meta1.blocksizeField (bigIn xs) xs) ≡ true
+  pub tasks : tasksRule (Meta1.tasksField (bigIn xs) xs) ≡ true
+  pub files-are : Meta1.filesField (bigIn xs) xs ≡ pos Meta1.fileCount
+  pub file-number-is : Meta1.fileNumberField (bigIn xs) xs ≡ pos Meta1.fileNumber
+  pub long : meta1End (tasksIn xs) ≤ len
+  pub ranks : ranksRule (tasksIn xs) (Meta1.rankField (bigIn xs) xs) ≡ true
+  pub sizes : sizesRule (tasksIn xs) (Meta1.sizeField (bigIn xs) xs (tasksIn xs)) ≡ true
+  pub maxchunks : maxchunksRule (Meta1.maxchunksField (bigIn xs) xs (tasksIn xs)) ≡ true
+  pub start-is : Meta1.startField (bigIn xs) xs (tasksIn xs) ≡ pos (meta2In xs)
+  pub fits : endAt (headIn xs) (sizeIn xs) (maxchunksIn xs) ≤ len
+
+module _ (xs : List ℕ) where
+  -- the magic number, byte by byte and whole
+  pub magic-there : length Meta1.magic ≤ length xs → magicIn xs ≡ true → take (length Meta1.magic) xs ≡ Meta1.magic
+  unfolding magicIn
+  magic-there l e =
+      let n = length-take-le (length Meta1.magic) xs l in
+      ext-getD 0 (take (length Meta1.magic) xs) Meta1.magic n
+      (λ i h. let h : i < length Meta1.magic = omega arith in
+      getD-take (length Meta1.magic) xs i 0 h ∙ eqb-true _ _ (all-at _ (length Meta1.magic) i h e))
+
+  pub magic-holds : take (length Meta1.magic) xs ≡ Meta1.magic → magicIn xs ≡ true
+  unfolding magicIn
+  magic-holds e =
+      all-of _ (length Meta1.magic)
+      (λ i h. eq-eqb _ _ (sym (getD-take (length Meta1.magic) xs i 0 h) ∙ ap (λ (l : List ℕ). getD l i 0) e))
+
+  -- the order number is 1 in the order that is read, where it is in one of the two, and back
+  ordered : orderedIn xs ≡ true → Meta1.orderField (bigIn xs) xs ≡ pos Meta1.orderNumber
+  unfolding orderedIn bigIn
+  ordered e = go (bigIn xs) refl e
+    where
+      go : (b : Bool) → bigIn xs ≡ b → (is Meta1.orderNumber (Meta1.orderField false xs) || b) ≡ true
+          → Meta1.orderField b xs ≡ pos Meta1.orderNumber
+      go true b e = within-one Meta1.orderNumber (Meta1.orderField true xs) b
+      go false b e = within-one Meta1.orderNumber (Meta1.orderField false xs) (rw or-false at e)
+
+  ordered-holds : Meta1.orderField (bigIn xs) xs ≡ pos Meta1.orderNumber → orderedIn xs ≡ true
+  unfolding orderedIn
+  ordered-holds e = go (bigIn xs) e
+    where
+      go : (b : Bool) → Meta1.orderField b xs ≡ pos Meta1.orderNumber → (is Meta1.orderNumber (Meta1.orderField false xs) || b) ≡ true
+      go true e = or-true (is Meta1.orderNumber (Meta1.orderField false xs))
+      go false e = rw e
+
+  -- no other order could be read
+  pub order-forced : (big : Bool) → 8 ≤ length xs → Meta1.orderField big xs ≡ pos Meta1.orderNumber → bigIn xs ≡ big
+  unfolding bigIn
+  order-forced true l e = rw e (is-refl Meta1.orderNumber)
+  order-forced false l e = go (bigIn xs) refl
+    where
+      go : (b : Bool) → is Meta1.orderNumber (Meta1.orderField true xs) ≡ b → b ≡ false
+      go true b =
+          let t = within-one Meta1.orderNumber (Meta1.orderField true xs) b in
+          absurd
+          (one-order xs 4 l (signed-pos (signBit 4) (numberAt true 4 xs 4) Meta1.orderNumber t)
+          (signed-pos (signBit 4) (numberAt false 4 xs 4) Meta1.orderNumber e))
+      go false b = refl
+
+  module _ (len : ℕ) where
+    pub meta1-numbered : Numbered (meta1Tests xs len)
+    unfolding meta1Tests startTests fieldTests fixedTests listTests lastTests restTests
+    meta1-numbered = omega arith
+
+    pub meta1-holds : firstFailing (meta1Tests xs len) ≡ 0 → Meta1Holds xs len
+    unfolding meta1Tests startTests fieldTests fixedTests listTests lastTests restTests
+    meta1-holds e =
+        let (mark, (order, (short, (format, (blocksize, (tasks, (files, (long, (ranks, (sizes, (unclosed, (maxchunks, (place, end)))))))))))))
+        = none-fails (meta1Tests xs len) meta1-numbered e in
+        record {
+          magic-is = not-false _ (or-right (ltb len (length Meta1.magic)) _ mark);
+          order-is = ordered (not-false _ (or-right (ltb len 8) _ order));
+          format-is = within-one _ _ (not-false _ format);
+          blocksize = not-false _ blocksize;
+          tasks = not-false _ tasks;
+          files-are = within-one _ _ (and-left _ (is Meta1.fileNumber (Meta1.fileNumberField (bigIn xs) xs)) (not-false _ files));
+          file-number-is = within-one _ _ (and-right (is Meta1.fileCount (Meta1.filesField (bigIn xs) xs)) _ (not-false _ files));
+          long = ltb-false _ _ long;
+          ranks = not-false _ ranks;
+          sizes = not-false _ sizes;
+          maxchunks = not-false _ maxchunks;
+          start-is = within-one _ _ (not-false _ (or-left _ (ltb len (endAt (headIn xs) (sizeIn xs) (maxchunksIn xs))) place));
+          fits = ltb-false _ _ (or-right (not (is (meta2In xs) (Meta1.startField (bigIn xs) xs (tasksIn xs)))) _ place);
+        }
+
+    -- META2 never starts at 0
+    start-some : Meta1Holds xs len → 0 < meta2In xs
+    unfolding headIn meta2In meta2At meta2Start meta1End
+    start-some h =
+        let b : ℕ = natural (Meta1.blocksizeField (bigIn xs) xs) in
+        let some : 0 < b = omega (arith, blocksize-natural _ (h .blocksize) .1) in
+        omega (arith, meta1-before-data b (tasksIn xs) some)
+
+    pub meta1-passes : Meta1Holds xs len → firstFailing (meta1Tests xs len) ≡ 0
+    unfolding meta1Tests startTests fieldTests fixedTests listTests lastTests restTests meta1End
+    meta1-passes h =
+        let start : ℕ = meta2In xs in
+        let mark = or-both (le-ltb len (length Meta1.magic) (omega arith)) (ap not (h .magic-is)) in
+        let order = or-both (le-ltb len 8 (omega arith)) (ap not (ordered-holds (h .order-is))) in
+        let short = le-ltb len Meta1.fixedLength (omega arith) in
+        let format = ap (λ (z : ℤ). not (is Meta1.formatVersion z)) (h .format-is) in
+        let blocksize = ap not (h .blocksize) in
+        let tasks = ap not (h .tasks) in
+        let files = ap₂ (λ (y z : ℤ). not (is Meta1.fileCount y && is Meta1.fileNumber z)) (h .files-are) (h .file-number-is) in
+        let long = le-ltb len (meta1End (tasksIn xs)) (h .long) in
+        let ranks = ap not (h .ranks) in
+        let sizes = ap not (h .sizes) in
+        let closed = ap (is 0) (h .start-is) ∙ within-over 0 0 start (start-some h) in
+        let maxchunks = ap not (h .maxchunks) in
+        let there = ap (λ (z : ℤ). not (is start z)) (h .start-is) ∙ ap not (is-refl start) in
+        let place = or-both there (le-ltb len (endAt (headIn xs) (sizeIn xs) (maxchunksIn xs)) (h .fits)) in
+        all-pass (meta1Tests xs len)
+        (mark, (order, (short, (format, (blocksize, (tasks, (files, (long, (ranks, (sizes, (closed, (maxchunks, (place, tt)))))))))))))
+
+-- the fields are numbers in their ranges
+module _ {xs : List ℕ} {len : ℕ} (h : Meta1Holds xs len) where
+  pub block-in : InRange minBlocksize maxBlocksize (Meta1.blocksizeField (bigIn xs) xs)
+  block-in = blocksize-natural _ (h .blocksize)
+
+  pub tasks-in : InRange 1 maxTasks (Meta1.tasksField (bigIn xs) xs)
+  tasks-in = tasks-natural _ (h .tasks)
+
+  pub rank-in : (i : ℕ) → i < tasksIn xs → InRange 0 maxRank (Meta1.rankField (bigIn xs) xs i)
+  rank-in i l = within-natural 0 maxRank _ (ranks-within (tasksIn xs) (Meta1.rankField (bigIn xs) xs) (h .ranks) i l)
+
+  pub size-in : (i : ℕ) → i < tasksIn xs → InRange 1 maxSize (Meta1.sizeField (bigIn xs) xs (tasksIn xs) i)
+  size-in i l = within-natural 1 maxSize _ (sizes-within (tasksIn xs) (Meta1.sizeField (bigIn xs) xs (tasksIn xs)) (h .sizes) i l)
+
+  pub maxchunks-in : InRange 0 maxBlocks (Meta1.maxchunksField (bigIn xs) xs (tasksIn xs))
+  unfolding maxchunksRule
+  maxchunks-in = within-natural 0 maxBlocks _ (h .maxchunks)
+
+-- ---- META2
+
+module _ (h : Head) (size : ℕ → ℕ) (maxchunks : ℕ) (part : List ℕ) where
+  pub record Meta2Holds : Type 0 where
+    pub counts : Meta2.countsRule (h .n) maxchunks (Meta2.countField (isBig h) part) ≡ true
+    pub values : Meta2.valuesRule (h .n) maxchunks (holds h size) (countIn h part) (Meta2.valueField (isBig h) part (h .n)) ≡ true
+
+  meta2-numbered : Numbered (meta2Tests h size maxchunks part)
+  unfolding meta2Tests
+  meta2-numbered = omega arith
+
+  pub meta2-holds : firstFailing (meta2Tests h size maxchunks part) ≡ 0 → Meta2Holds
+  unfolding meta2Tests
+  meta2-holds e =
+      let both = not-false _ (none-fails (meta2Tests h size maxchunks part) meta2-numbered e .0) in
+      record {
+        counts = and-left _ (Meta2.valuesRule (h .n) maxchunks (holds h size) (countIn h part) (Meta2.valueField (isBig h) part (h .n))) both;
+        values = and-right (Meta2.countsRule (h .n) maxchunks (Meta2.countField (isBig h) part)) _ both;
+      }
+
+  pub meta2-passes : Meta2Holds → firstFailing (meta2Tests h size maxchunks part) ≡ 0
+  unfolding meta2Tests
+  meta2-passes r = all-pass (meta2Tests h size maxchunks part) (rw (r .counts, r .values), tt)

@@ -1,0 +1,242 @@
+-- Every container is accepted, with a table that is long enough, and what is handed back is what it says.
+use mathlib.Core.Path.{_≡_, refl, ap, _∙_}
+use mathlib.Core.Bool.{Bool, true}
+use mathlib.Core.List.{List}
+use mathlib.Core.Logic.{inr}
+use Prim.Native.Nat.{ℕ, _+_, _*_, _≤_, _<_, zero-le}
+use native.Mathlib.Nat.{zero-add}
+use native.Mathlib.Omega.{arith}
+use lib.IntN.{ℤ, pos}
+use lib.ListN.{length}
+use Rattle.lists.specs.Below.{listBelow}
+use Rattle.endian.specs.Signed.{natural}
+use Rattle.lists.specs.Splice.{splice}
+use Rattle.lists.proofs.Below.{length-list, getD-list}
+use Rattle.endian.proofs.Signed.{within-holds}
+use Rattle.lists.proofs.Splice.{length-splice, getD-splice-in, getD-splice-out}
+use Rattle.format.specs.Limits.{maxTasks, maxBlocks, maxchunksRule}
+use Rattle.format.specs.Layout.{meta1End, meta2Start, meta2End}
+use Rattle.format.specs.declared.head.Head.{Head}
+use Rattle.format.specs.Meta1
+use Rattle.format.specs.Meta2
+use Rattle.format.specs.Record.{cell, listsOf, orderOf, holds, headOf, meta2At, endAt}
+use Rattle.format.specs.Judge.{bigIn, tasksIn, maxchunksIn, headIn, rankIn, sizeIn, meta2In, countIn, valuesIn}
+use Rattle.format.proofs.Refusals.{when-accepted}
+use Rattle.format.proofs.Rules.{counts-hold, values-hold, values-agree, valueIndex-lt}
+use Rattle.format.proofs.Stripes.{length-lists, lists-agree, rank-at, size-at, count-at, rank-made, size-made, count-made, rank-past, size-past, count-past}
+use Rattle.format.proofs.Record.{isBig-order, holds-agree, meta2At-agree, endAt-agree}
+use Rattle.format.proofs.Accepting.{Meta1Holds, magic-holds, order-forced, Meta2Holds}
+use Rattle.format.specs.declared.loaded.Loaded.{Loaded}
+use Rattle.format.specs.declared.loaded.LoadAnswer.{LoadAnswer}
+use Rattle.format.specs.Loaded.{loadedOf}
+use Rattle.format.specs.Container.{Contents, HasMeta1, HasMeta2, meta2Said, valueOf, Lists, Recorded, Says, HeadSays}
+use Rattle.format.specs.Load.{meta2Bytes, loadedIn, listsIn, loadRefusal, checkAnswer, loadAnswer, loadTable}
+use Rattle.format.proofs.LoadTests.{load-holds, load-passes}
+use Rattle.format.proofs.InBounds.{block-kept, tasks-kept, ranks-kept, sizes-kept}
+
+abbrev pub headSaid : Contents → Head
+headSaid s = headOf (orderOf (s .big)) (s .version) (s .patch) (s .blocksize) (s .n)
+
+abbrev pub listsSaid : Contents → List ℕ
+listsSaid s = listsOf (s .n) (s .rank) (s .size) (s .count)
+
+-- a head that was made, number by number
+pub head-says : {h : Head} {order : ℕ} {version patch : ℤ} {blocksize n : ℕ} → h ≡ headOf order version patch blocksize n
+    → HeadSays h order version patch blocksize n
+head-says e = record {
+  order-is = ap (λ (h : Head). h .order) e;
+  version-is = ap (λ (h : Head). h .version) e;
+  patch-is = ap (λ (h : Head). h .patch) e;
+  blocksize-is = ap (λ (h : Head). h .blocksize) e;
+  tasks-are = ap (λ (h : Head). h .n) e;
+}
+
+-- lists that were made, entry by entry
+pub lists-hold : (n : ℕ) (rank size count : ℕ → ℕ) → n ≤ maxTasks → {lists : List ℕ} → lists ≡ listsOf n rank size count
+    → Lists n rank size count lists
+lists-hold n rank size count few {lists} e =
+    let made : List ℕ = listsOf n rank size count in
+    rw e (record {
+      ranks = λ i l. rank-at made i (omega arith) ∙ rank-made n rank size count few i l;
+      sizes = λ i l. size-at made i (omega arith) ∙ size-made n rank size count few i l;
+      counts = λ i l. count-at made i (omega arith) ∙ count-made n rank size count few i l;
+      zeros = λ i past l. (
+        rank-at made i l ∙ rank-past n rank size count i past l,
+        size-at made i l ∙ size-past n rank size count i past l,
+        count-at made i l ∙ count-past n rank size count i past l,
+      );
+      as-many = length-lists n rank size count;
+    })
+
+module _ (image : List ℕ) (s : Contents) (one : HasMeta1 image s) (two : HasMeta2 image s) where
+  pub few : s .n ≤ maxTasks
+  few = one .bounds .tasks-range .1
+
+  -- ---- what it says keeps the rules, wherever it is read from
+
+  pub maxchunks-kept : maxchunksRule (pos (s .maxchunks)) ≡ true
+  unfolding maxchunksRule
+  maxchunks-kept = within-holds 0 maxBlocks (s .maxchunks) zero-le (one .maxchunks-range)
+
+  pub counts-kept : (f : ℕ → ℤ) → ((i : ℕ) → i < s .n → f i ≡ pos (s .count i)) → Meta2.countsRule (s .n) (s .maxchunks) f ≡ true
+  counts-kept f are =
+      let (i, l, top) = two .greatest in
+      counts-hold (s .n) (s .maxchunks) f
+      (λ i l. rw (are i l) (within-holds 0 (s .maxchunks) (s .count i) zero-le (two .counts-range i l)))
+      i l (ap natural (are i l) ∙ top)
+
+  pub values-kept : (count : ℕ → ℕ) (f : ℕ → ℤ) → ((i : ℕ) → i < s .n → count i ≡ s .count i)
+      → ((i k : ℕ) → i < s .n → k < s .count i → f (Meta2.valueIndex (s .n) k i) ≡ pos (s .written k i))
+      → ((i k : ℕ) → i < s .n → s .count i ≤ k → k < s .maxchunks → f (Meta2.valueIndex (s .n) k i) ≡ Meta2.unused)
+      → Meta2.valuesRule (s .n) (s .maxchunks) (holds (headSaid s) (s .size)) count f ≡ true
+  unfolding holds
+  values-kept count f counts used others =
+      values-hold (s .n) (s .maxchunks) _ count f
+      (λ i k l h u.
+      let v : k < s .count i = rw (counts i l) at u in
+      rw (used i k l v)
+      (within-holds 0 _ (s .written k i) zero-le (two .used-fit i k l v)))
+      (λ i k l u h. others i k l (rw (counts i l) at u) h)
+
+  -- ---- what is read of the image is what it says
+
+  big-is : bigIn image ≡ s .big
+  unfolding meta1End
+  big-is = order-forced image (s .big) (omega (arith, one .long)) (one .order-is)
+
+  tasks-is : tasksIn image ≡ s .n
+  unfolding tasksIn
+  tasks-is = rw big-is (ap natural (one .tasks-are))
+
+  maxchunks-is : maxchunksIn image ≡ s .maxchunks
+  unfolding maxchunksIn
+  maxchunks-is = rw (big-is, tasks-is) (ap natural (one .maxchunks-is))
+
+  rank-is : (i : ℕ) → i < s .n → rankIn image i ≡ s .rank i
+  unfolding rankIn
+  rank-is i l = rw big-is (ap natural (one .ranks-are i l))
+
+  size-is : (i : ℕ) → i < s .n → sizeIn image i ≡ s .size i
+  unfolding sizeIn
+  size-is i l = rw (big-is, tasks-is) (ap natural (one .sizes-are i l))
+
+  head-is : headIn image ≡ headSaid s
+  unfolding headIn
+  head-is = λ i. record {
+    order = orderOf (big-is i);
+    version = (ap (λ (b : Bool). Meta1.versionField b image) big-is ∙ one .version-is) i;
+    patch = (ap (λ (b : Bool). Meta1.patchField b image) big-is ∙ one .patch-is) i;
+    blocksize = ap natural (ap (λ (b : Bool). Meta1.blocksizeField b image) big-is ∙ one .blocksize-is) i;
+    n = tasks-is i;
+  }
+
+  start-said : meta2In image ≡ meta2Start (s .blocksize) (s .n) (s .size) (s .maxchunks)
+  unfolding meta2In meta2At
+  start-said = rw (head-is, maxchunks-is) (meta2At-agree (headSaid s) (sizeIn image) (s .size) size-is (s .maxchunks))
+
+  end-said : endAt (headIn image) (sizeIn image) (maxchunksIn image) ≡ meta2End (s .blocksize) (s .n) (s .size) (s .maxchunks)
+  unfolding endAt
+  end-said = rw (head-is, maxchunks-is) (endAt-agree (headSaid s) (sizeIn image) (s .size) size-is (s .maxchunks))
+
+  part-is : meta2Bytes image ≡ meta2Said image s
+  unfolding meta2Bytes
+  part-is = rw (tasks-is, maxchunks-is, start-said)
+
+  count-is : (i : ℕ) → i < s .n → countIn (headSaid s) (meta2Said image s) i ≡ s .count i
+  unfolding countIn
+  count-is i l = rw (isBig-order (s .big)) (ap natural (two .counts-are i l))
+
+  -- ---- its tests pass
+
+  first-holds : Meta1Holds image (length image)
+  first-holds = record {
+    magic-is = magic-holds image (one .magic-is);
+    order-is = rw big-is (one .order-is);
+    format-is = rw big-is (one .format-is);
+    blocksize = rw (big-is, one .blocksize-is) (block-kept (one .bounds));
+    tasks = rw (big-is, one .tasks-are) (tasks-kept (one .bounds));
+    files-are = rw big-is (one .files-are);
+    file-number-is = rw big-is (one .file-number-is);
+    long = rw tasks-is (one .long);
+    ranks = rw (big-is, tasks-is) (ranks-kept (one .bounds) _ (one .ranks-are));
+    sizes = rw (big-is, tasks-is) (sizes-kept (one .bounds) _ (one .sizes-are));
+    maxchunks = rw (big-is, tasks-is, one .maxchunks-is) maxchunks-kept;
+    start-is = rw (big-is, tasks-is, start-said) (one .start-is);
+    fits = rw end-said (two .fits);
+  }
+
+  second-holds : Meta2Holds (headSaid s) (sizeIn image) (s .maxchunks) (meta2Said image s)
+  second-holds = record {
+    counts = rw (isBig-order (s .big)) (counts-kept _ (two .counts-are));
+    values =
+        values-agree (s .n) (s .maxchunks) _ _ _ _ _ _ (holds-agree (headSaid s) (sizeIn image) (s .size) size-is) (λ i l. refl) (λ j l. refl)
+        ∙ rw (isBig-order (s .big)) (values-kept _ _ count-is (two .used-first) (two .others-unused));
+  }
+
+  pub every : (cells : ℕ) → s .n * s .maxchunks ≤ cells → loadRefusal image cells ≡ 0
+  every cells room = load-passes image cells (record {
+    first = first-holds;
+    room = rw (tasks-is, maxchunks-is) room;
+    second = rw (head-is, maxchunks-is, part-is) second-holds;
+  })
+
+  -- ---- what is handed back
+
+  abbrev values : List ℤ
+  values = listBelow (s .n * s .maxchunks) (Meta2.valueField (s .big) (meta2Said image s) (s .n))
+
+  values-said : valuesIn (headSaid s) (s .maxchunks) (meta2Said image s) ≡ values
+  unfolding valuesIn
+  values-said = rw (isBig-order (s .big))
+
+  module _ (table : List ℤ) (accepted : loadRefusal image (length table) ≡ 0) where
+    answer-is : loadAnswer image table ≡ record { loaded = loadedIn image; lists = listsIn image; refusal = 0 }
+    unfolding loadAnswer checkAnswer
+    answer-is = when-accepted _ _ _ accepted
+
+    pub loaded-is : loadAnswer image table .loaded ≡ loadedOf (headSaid s) (s .maxchunks) 0
+    unfolding loadedIn
+    loaded-is = rw (answer-is, head-is, maxchunks-is)
+
+    pub lists-are : loadAnswer image table .lists ≡ listsSaid s
+    unfolding listsIn
+    lists-are =
+        ap (λ (a : LoadAnswer). a .lists) answer-is
+        ∙ rw (tasks-is, head-is, part-is) (lists-agree (s .n) _ _ _ _ _ _ rank-is size-is count-is)
+
+    table-is : loadTable image table ≡ splice table 0 values
+    unfolding loadTable
+    table-is = when-accepted _ _ _ accepted ∙ ap (splice table 0) (rw (head-is, maxchunks-is, part-is) values-said)
+
+    pub room : s .n * s .maxchunks ≤ length table
+    room = rw (tasks-is, maxchunks-is) at (load-holds image (length table) accepted .room)
+
+    fits : 0 + length values ≤ length table
+    fits = rw (zero-add, length-list) room
+
+    cell-is : (i k : ℕ) → i < s .n → k < s .maxchunks
+        → cell (loadTable image table) (Meta2.valueIndex (s .n) k i) ≡ valueOf image s k i
+    cell-is i k l h =
+        let j : ℕ = Meta2.valueIndex (s .n) k i in
+        let below = valueIndex-lt (s .n) (s .maxchunks) k i l h in
+        rw table-is
+        (rw zero-add at (getD-splice-in table 0 values fits j (pos 0) (rw length-list below))
+        ∙ getD-list _ _ j (pos 0) below)
+
+    recorded : Recorded s (loadAnswer image table .loaded) (loadAnswer image table .lists)
+    recorded =
+        let e = loaded-is in record {
+          head = head-says (ap (λ (l : Loaded). l .head) e);
+          maxchunks = ap (λ (l : Loaded). l .maxchunks) e;
+          not-closed = ap (λ (l : Loaded). l .closed) e;
+          listed = lists-hold (s .n) (s .rank) (s .size) (s .count) few lists-are;
+        }
+
+    pub says : Says s (loadAnswer image table .loaded) (loadAnswer image table .lists) table (loadTable image table)
+    says = record {
+      recorded = recorded;
+      used-cells = λ i k l u. cell-is i k l (omega (arith, two .counts-range i l)) ∙ two .used-first i k l u;
+      unused-cells = λ i k l u h. cell-is i k l h ∙ two .others-unused i k l u h;
+      other-cells = λ j l. rw table-is (getD-splice-out table 0 values fits j (pos 0) (inr (rw (zero-add, length-list) l)));
+      as-long = rw table-is (length-splice table 0 values fits);
+    }

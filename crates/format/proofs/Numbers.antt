@@ -1,0 +1,69 @@
+-- The paper's numbers are those that the rules compute.
+use mathlib.Core.Path.{_≡_, refl}
+use mathlib.Core.Bool.{true}
+use Prim.Native.Nat.{_<_}
+use native.Mathlib.Omega.{arith}
+use lib.ListN.{length}
+use borrow.Author.Tests.{lt-ltb, ne-eqb}
+use mathlib.Core.List.{flatten}
+use Rattle.lists.specs.Below.{allBelow, anyBelow, sumBelow, greatestBelow, joinBelow}
+use Rattle.lists.specs.Splice.{splice}
+use Rattle.format.specs.Limits.{tasksRule, powerOfTwo, blocksizeRule, sizesRule, plannedRule, maxchunksRule, allDifferent, ranksRule}
+use Rattle.format.specs.Layout.{meta1End, roundUp, dataStart, extended, capacity, extendedBefore, globalskip, chunkStart, meta2Start, meta2Length, meta2End}
+use Rattle.format.specs.Refusals.{firstFailing}
+use Rattle.format.specs.Meta1.{lastFields, meta1Front, meta1, openingBytes}
+use Rattle.format.specs.Meta2.{valueRule, valuesRule, countsRule, meta2}
+use Rattle.format.specs.Record.{filled, listsOf, holds, startOf, meta2At, endAt, headSound, tooShort, cellsAgree, recordTests, isTask}
+use Rattle.format.specs.Loaded.{loadedSound}
+use Rattle.format.proofs.Answers.{answer-long}
+use Rattle.format.specs.Session.{State, sessionSound, sessionTests}
+use Rattle.format.specs.Open.{shapeTests, numberTests, planTests, needsAnswer, openRefusal, opens, openHead, openSession, openLists, openAnswer, openImage, openTable}
+use Rattle.format.specs.Write.{Request, begun, inLast, capacityOf, spot, target, requestTests, writeRefusal, stored, afterWrite}
+use Rattle.format.specs.Close.{maxchunksOf, finished, closedImage, closeRefusal, closeAnswer, closeImage}
+use Rattle.format.specs.Judge.{magicIn, bigIn, orderedIn, tasksIn, maxchunksIn, headIn, rankIn, sizeIn, meta2In, startTests, fieldTests, fixedTests, listTests, lastTests, restTests, meta1Tests, countIn, valuesIn, meta2Tests}
+use Rattle.format.specs.Load.{meta2Bytes, loadedIn, listsIn, loadRefusal, checkAnswer, loadAnswer, loadTable}
+use Rattle.format.specs.Reads.{loadedTests, readTests, chunksUsed, writtenIn, chunkBytes, chunkRefusal, chunkPart, chunkPlace, partAnswer, streamOf, totalOf, totalAnswer, readRefusal, readAnswer, readOutput}
+use Rattle.format.specs.Tally.{Terms, Fed, Tally, outcome, answerTo, feed}
+use Rattle.format.specs.Numbers.{Agrees, pTable, otherTable}
+use Rattle.format.specs.Orders.{orderTable}
+use Rattle.format.specs.Bytes.{byteTable}
+
+all-tables : Agrees pTable × Agrees otherTable × Agrees orderTable × Agrees byteTable
+unfolding allBelow anyBelow sumBelow greatestBelow joinBelow flatten splice tasksRule powerOfTwo blocksizeRule sizesRule plannedRule
+    maxchunksRule allDifferent ranksRule meta1End roundUp dataStart extended capacity extendedBefore globalskip chunkStart
+    meta2Start meta2Length meta2End firstFailing lastFields meta1Front meta1 openingBytes valueRule valuesRule countsRule meta2 filled listsOf headSound
+    sessionSound loadedSound tooShort cellsAgree recordTests shapeTests numberTests planTests holds startOf meta2At endAt needsAnswer openRefusal opens openHead openSession openLists
+    openAnswer openImage openTable sessionTests begun inLast capacityOf spot target requestTests stored maxchunksOf finished
+    closedImage writeRefusal afterWrite closeRefusal closeAnswer closeImage magicIn bigIn orderedIn tasksIn maxchunksIn headIn rankIn sizeIn meta2In
+    startTests fieldTests fixedTests listTests lastTests restTests meta1Tests countIn valuesIn meta2Tests meta2Bytes loadedIn listsIn loadRefusal checkAnswer loadAnswer loadTable loadedTests readTests chunksUsed writtenIn chunkBytes
+    chunkRefusal chunkPart chunkPlace partAnswer streamOf totalOf totalAnswer readRefusal readAnswer readOutput outcome feed pTable otherTable orderTable byteTable
+all-tables = (
+  (refl, (refl, (refl, (refl, (refl, (refl, (refl, (refl, (refl, (refl, (refl, (refl, (refl, tt))))))))))))),
+  (refl, (refl, (refl, (refl, (refl, (refl, (refl, (refl, (refl, (refl, (refl, (refl, (refl, (refl, (refl, (refl, tt)))))))))))))))),
+  (refl, (refl, (refl, (refl, (refl, (refl, (refl, (refl, (refl, (refl, (refl, (refl, tt)))))))))))),
+  (refl, (refl, (refl, (refl, (refl, (refl, (refl, tt))))))),
+)
+
+-- P1 to P13, and the numbers without a P
+pub p-table : Agrees pTable
+p-table = all-tables .0
+
+pub other-table : Agrees otherTable
+other-table = all-tables .1
+
+-- the orders of tests, and what is stored, byte by byte
+pub order-table : Agrees orderTable
+order-table = all-tables .2
+
+pub byte-table : Agrees byteTable
+byte-table = all-tables .3
+
+-- P13, "refused with 15 at any moment": whatever a session holds, once it passes 17, 18 and 19, and whatever the tally keeps
+pub too-long : (st : State) (q : Request) → firstFailing (sessionTests st) ≡ 0 → isTask (st .session .head .n) (q .task) ≡ true
+    → capacityOf st q < length (q .bytes) → writeRefusal st q ≡ 15
+too-long st q passes task long = answer-long st q passes task long
+
+pub tally-too-long : (p : Terms) (a : Fed) (x : Tally) → isTask (p .n) (a .task) ≡ true → p .c (a .task) < a .L
+    → answerTo (outcome p a x) ≡ 15
+unfolding outcome
+tally-too-long p a x task long = simp (task, ne-eqb (a .L) 0 (λ e. omega arith), lt-ltb _ _ long)

@@ -1,0 +1,133 @@
+-- What the loader accepts is a container: of an image whose tests pass, what its fields say keeps each rule.
+use mathlib.Core.Path.{_≡_, refl, sym, ap, _∙_, subst}
+use mathlib.Core.Bool.{Bool, true}
+use mathlib.Core.List.{List}
+use Prim.Native.Nat.{ℕ, _*_, _≤_, _<_}
+use native.Mathlib.Omega.{arith}
+use lib.IntN.{pos}
+use lib.ListN.{length}
+use Rattle.endian.specs.Signed.{natural}
+use Rattle.endian.proofs.Signed.{InRange, within-natural}
+use Rattle.format.specs.Limits.{blocksizeRule}
+use Rattle.format.specs.Layout.{meta1End, meta2End}
+use Rattle.format.proofs.Power.{blocksize-facts, power-of-two}
+use Rattle.format.specs.Meta1
+use Rattle.format.specs.Meta2
+use Rattle.format.specs.Record.{isBig, holds, meta2At, endAt}
+use Rattle.format.specs.Judge.{bigIn, tasksIn, maxchunksIn, headIn, rankIn, sizeIn, meta2In, countIn}
+use Rattle.format.proofs.Rules.{ranks-differ, counts-within, counts-greatest, values-used, values-unused}
+use Rattle.format.proofs.Record.{isBig-order}
+use Rattle.format.proofs.Accepting.{Meta1Holds, magic-there, Meta2Holds, block-in, tasks-in, rank-in, size-in, maxchunks-in}
+use Rattle.format.specs.Container.{Contents, InBounds, HasMeta1, HasMeta2, IsContainer, meta2Said}
+use Rattle.format.specs.Load.{meta2Bytes, loadRefusal}
+use Rattle.format.proofs.LoadTests.{load-holds}
+
+-- what the fields of an image say
+abbrev contentsIn : List ℕ → Contents
+contentsIn image = record {
+  big = bigIn image;
+  version = Meta1.versionField (bigIn image) image;
+  patch = Meta1.patchField (bigIn image) image;
+  blocksize = natural (Meta1.blocksizeField (bigIn image) image);
+  n = tasksIn image;
+  rank = rankIn image;
+  size = sizeIn image;
+  maxchunks = maxchunksIn image;
+  count = λ i. natural (Meta2.countField (bigIn image) (meta2Bytes image) i);
+  written =
+      λ k i. natural (Meta2.valueField (bigIn image) (meta2Bytes image) (tasksIn image) (Meta2.valueIndex (tasksIn image) k i));
+}
+
+module _ (image : List ℕ) (first : Meta1Holds image (length image)) where
+  bounds-in : InBounds (contentsIn image .blocksize) (tasksIn image) (rankIn image) (sizeIn image)
+  unfolding tasksIn rankIn sizeIn
+  bounds-in =
+      let rule : blocksizeRule (pos (contentsIn image .blocksize)) ≡ true = rw (block-in first .0) at (first .blocksize) in
+      record {
+        blocksize-power = power-of-two _ (blocksize-facts _ rule .2);
+        blocksize-range = (block-in first .1, block-in first .2);
+        tasks-range = (tasks-in first .1, tasks-in first .2);
+        ranks-range = λ i l. rank-in first i l .2;
+        ranks-differ =
+            λ i j l h same.
+            ranks-differ (tasksIn image) (Meta1.rankField (bigIn image) image) (first .ranks) i j l h
+            (rank-in first i l .0 ∙ ap pos same ∙ sym (rank-in first j h .0));
+        sizes-range = λ i l. (size-in first i l .1, size-in first i l .2);
+      }
+
+  has-meta1 : HasMeta1 image (contentsIn image)
+  unfolding meta1End tasksIn maxchunksIn rankIn sizeIn headIn meta2In meta2At
+  has-meta1 =
+      record {
+        bounds = bounds-in;
+        long = first .long;
+        magic-is = magic-there image (omega (arith, first .long)) (first .magic-is);
+        order-is = first .order-is;
+        version-is = refl;
+        patch-is = refl;
+        format-is = first .format-is;
+        blocksize-is = block-in first .0;
+        tasks-are = tasks-in first .0;
+        files-are = first .files-are;
+        file-number-is = first .file-number-is;
+        ranks-are = λ i l. rank-in first i l .0;
+        sizes-are = λ i l. size-in first i l .0;
+        maxchunks-is = maxchunks-in first .0;
+        maxchunks-range = maxchunks-in first .2;
+        start-is = first .start-is;
+      }
+
+  module _ (second : Meta2Holds (headIn image) (sizeIn image) (maxchunksIn image) (meta2Bytes image)) where
+    end-in : endAt (headIn image) (sizeIn image) (maxchunksIn image)
+        ≡ meta2End (contentsIn image .blocksize) (tasksIn image) (contentsIn image .size) (maxchunksIn image)
+    unfolding headIn endAt
+    end-in = refl
+
+    part-in : meta2Said image (contentsIn image) ≡ meta2Bytes image
+    unfolding meta2Bytes meta2In meta2At headIn
+    part-in = refl
+
+    counts-in : Meta2.countsRule (tasksIn image) (maxchunksIn image) (Meta2.countField (bigIn image) (meta2Bytes image)) ≡ true
+    unfolding headIn
+    counts-in = rw (isBig-order (bigIn image)) at (second .counts)
+
+    count-in : (i : ℕ) → i < tasksIn image → InRange 0 (maxchunksIn image) (Meta2.countField (bigIn image) (meta2Bytes image) i)
+    count-in i l = within-natural 0 _ _ (counts-within _ _ (Meta2.countField (bigIn image) (meta2Bytes image)) counts-in i l)
+
+    big-in : isBig (headIn image) ≡ bigIn image
+    unfolding headIn
+    big-in = isBig-order (bigIn image)
+
+    values-in : Meta2.valuesRule (tasksIn image) (maxchunksIn image) (holds (headIn image) (sizeIn image)) (contentsIn image .count)
+        (Meta2.valueField (bigIn image) (meta2Bytes image) (tasksIn image)) ≡ true
+    unfolding headIn countIn
+    values-in =
+        subst
+        (λ (big : Bool).
+        Meta2.valuesRule (tasksIn image) (maxchunksIn image) (holds (headIn image) (sizeIn image))
+        (λ i. natural (Meta2.countField big (meta2Bytes image) i))
+        (Meta2.valueField big (meta2Bytes image) (tasksIn image))
+        ≡ true)
+        big-in (second .values)
+
+    used-in : (i k : ℕ) → i < tasksIn image → k < contentsIn image .count i
+        → InRange 0 (holds (headIn image) (sizeIn image) i)
+        (Meta2.valueField (bigIn image) (meta2Bytes image) (tasksIn image) (Meta2.valueIndex (tasksIn image) k i))
+    used-in i k l u = within-natural 0 _ _ (values-used _ _ _ _ _ values-in i k l (omega (arith, count-in i l .2)) u)
+
+    has-meta2 : HasMeta2 image (contentsIn image)
+    unfolding tasksIn headIn holds
+    has-meta2 = record {
+      fits = rw end-in at (first .fits);
+      counts-are = λ i l. rw part-in (count-in i l .0);
+      counts-range = λ i l. count-in i l .2;
+      greatest = counts-greatest _ _ (Meta2.countField (bigIn image) (meta2Bytes image)) counts-in (tasks-in first .1);
+      used-first = λ i k l u. rw part-in (used-in i k l u .0);
+      used-fit = λ i k l u. used-in i k l u .2;
+      others-unused = λ i k l u h. rw part-in (values-unused _ _ _ _ _ values-in i k l h u);
+    }
+
+pub only : (image : List ℕ) (cells : ℕ) → loadRefusal image cells ≡ 0 → (c : IsContainer image) × (c .says .n * c .says .maxchunks ≤ cells)
+only image cells e =
+    let h = load-holds image cells e in
+    (record { says = contentsIn image; first = has-meta1 image (h .first); second = has-meta2 image (h .first) (h .second) }, h .room)

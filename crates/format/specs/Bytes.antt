@@ -1,0 +1,110 @@
+-- Document 01, "The first metadata block" and "The second metadata block", as the bytes that opening and closing store over an image of nines,
+-- written out number by number in both byte orders. That the rules compute these bytes is proved in proofs/Numbers.antt.
+use mathlib.Core.List.{List, [], _∷_, _++_}
+use Prim.Native.Nat.{ℕ}
+use lib.IntN.{pos, negsuc}
+use lib.ListN.{take, drop, replicate}
+use Rattle.format.specs.Session.{State}
+use Rattle.format.specs.Open.{Opening, opened}
+use Rattle.format.specs.Write.{writes}
+use Rattle.format.specs.Close.{closeImage}
+use Rattle.format.specs.Numbers.{Row, row, plan, two, twoFirst, twoLast}
+
+-- ---- opening: version -2, patch level 7, blocksize 512, ranks 5 and 258, sizes 500 and 600, the prefix `ab`
+
+abbrev pub abPlan : ℕ → Opening
+abPlan order =
+    record {
+      plan = record { order = order; version = negsuc 1; patch = pos 7; blocksize = 512; planned = 3 };
+      ranks = 5 ∷ 258 ∷ [];
+      sizes = two;
+      prefix = 97 ∷ 98 ∷ [];
+    }
+
+-- an image and a table of nines, opened
+abbrev pub overNines : Opening → State
+overNines o = opened o (replicate 6208 9) (replicate 7 (pos 9))
+
+-- META1, the zeros up to 1536, and one byte more
+abbrev pub abBytes : ℕ → List ℕ
+abBytes order = take 1537 (overNines (abPlan order) .image)
+
+abbrev pub zeros : ℕ → List ℕ
+zeros n = replicate n 0
+
+-- the magic number, the number 1, version, patch level, fileformat_version, blocksize, n, nfiles; filenumber; both flags; the prefix; two ranks; two sizes;
+-- maxchunks and start_of_varheader, which are 0; the zeros up to D; a byte of the image
+abbrev pub abLittle : List ℕ
+abLittle =
+    (115 ∷ 105 ∷ 111 ∷ 110 ∷ [])
+    ++ (1 ∷ 0 ∷ 0 ∷ 0 ∷ [])
+    ++ (254 ∷ 255 ∷ 255 ∷ 255 ∷ [])
+    ++ (7 ∷ 0 ∷ 0 ∷ 0 ∷ [])
+    ++ (3 ∷ 0 ∷ 0 ∷ 0 ∷ [])
+    ++ (0 ∷ 2 ∷ 0 ∷ 0 ∷ [])
+    ++ (2 ∷ 0 ∷ 0 ∷ 0 ∷ [])
+    ++ (1 ∷ 0 ∷ 0 ∷ 0 ∷ [])
+    ++ zeros 4
+    ++ zeros 16
+    ++ (97 ∷ 98 ∷ zeros 1022)
+    ++ (5 ∷ zeros 7)
+    ++ (2 ∷ 1 ∷ zeros 6)
+    ++ (244 ∷ 1 ∷ zeros 6)
+    ++ (88 ∷ 2 ∷ zeros 6)
+    ++ zeros 12
+    ++ zeros 416
+    ++ (9 ∷ [])
+
+-- the same in big order
+abbrev pub abBig : List ℕ
+abBig =
+    (115 ∷ 105 ∷ 111 ∷ 110 ∷ [])
+    ++ (0 ∷ 0 ∷ 0 ∷ 1 ∷ [])
+    ++ (255 ∷ 255 ∷ 255 ∷ 254 ∷ [])
+    ++ (0 ∷ 0 ∷ 0 ∷ 7 ∷ [])
+    ++ (0 ∷ 0 ∷ 0 ∷ 3 ∷ [])
+    ++ (0 ∷ 0 ∷ 2 ∷ 0 ∷ [])
+    ++ (0 ∷ 0 ∷ 0 ∷ 2 ∷ [])
+    ++ (0 ∷ 0 ∷ 0 ∷ 1 ∷ [])
+    ++ zeros 4
+    ++ zeros 16
+    ++ (97 ∷ 98 ∷ zeros 1022)
+    ++ (zeros 7 ++ (5 ∷ []))
+    ++ (zeros 6 ++ (1 ∷ 2 ∷ []))
+    ++ (zeros 6 ++ (1 ∷ 244 ∷ []))
+    ++ (zeros 6 ++ (2 ∷ 88 ∷ []))
+    ++ zeros 12
+    ++ zeros 416
+    ++ (9 ∷ [])
+
+-- ---- closing: the session of P11 and P12 over nines
+
+abbrev pub closedNines : ℕ → List ℕ
+closedNines order = closeImage (writes (overNines (plan order 512 two 3)) (twoFirst ++ (twoLast ∷ [])))
+
+-- META1's last two fields; META2, 2, 0, 500, -1, 1, -1, and one byte more; and the byte of P11 with those around it
+abbrev pub lastBytes : ℕ → List ℕ
+lastBytes order = take 12 (drop 1108 (closedNines order))
+
+abbrev pub secondBytes : ℕ → List ℕ
+secondBytes order = take 49 (drop 4608 (closedNines order))
+
+abbrev pub movedBytes : ℕ → List ℕ
+movedBytes order = take 3 (drop 3071 (closedNines order))
+
+abbrev pub all255 : List ℕ
+all255 = replicate 8 255
+
+unfoldable pub byteTable : List Row
+byteTable =
+    row (abBytes 0) abLittle
+    ∷ row (abBytes 1) abBig
+    -- -1 in the first 6 cells, and no more
+    ∷ record { computed = overNines (abPlan 0) .table; stated = replicate 6 (negsuc 0) ++ (pos 9 ∷ []) }
+    ∷ row (lastBytes 0 ++ lastBytes 1) ((2 ∷ zeros 3) ++ (0 ∷ 18 ∷ zeros 6) ++ (zeros 3 ++ (2 ∷ [])) ++ (zeros 6 ++ (18 ∷ 0 ∷ [])))
+    ∷ row (secondBytes 0)
+    ((2 ∷ zeros 7) ++ zeros 8 ++ (244 ∷ 1 ∷ zeros 6) ++ all255 ++ (1 ∷ zeros 7) ++ all255 ++ (9 ∷ []))
+    ∷ row (secondBytes 1)
+    ((zeros 7 ++ (2 ∷ [])) ++ zeros 8 ++ (zeros 6 ++ (1 ∷ 244 ∷ [])) ++ all255 ++ (zeros 7 ++ (1 ∷ [])) ++ all255 ++ (9 ∷ []))
+    ∷ row (movedBytes 0 ++ movedBytes 1) (9 ∷ 3 ∷ 9 ∷ 9 ∷ 3 ∷ 9 ∷ [])
+    ∷ []

@@ -1,0 +1,49 @@
+-- Closing a session (document 01, "Closing writes META2 ..."): its tests, and what an accepted and a refused close leave. The lists and the table
+-- stay as they are in either case.
+use mathlib.Core.Bool.{cond}
+use mathlib.Core.List.{List}
+use Prim.Native.Nat.{ℕ}
+use lib.Dec.{eqb}
+use lib.IntN.{ℤ}
+use lib.ListN.{length}
+use Rattle.lists.specs.Below.{greatestBelow}
+use Rattle.lists.specs.Splice.{splice}
+use Rattle.format.specs.declared.head.Head.{Head}
+use Rattle.format.specs.declared.session.Closed.{Closed}
+use Rattle.format.specs.Refusals.{firstFailing}
+use Rattle.format.specs.Meta1.{lastAt, lastFields}
+use Rattle.format.specs.Meta2.{meta2}
+use Rattle.format.specs.Record.{cell, sizeOf, countOf, isBig, meta2At, endAt}
+use Rattle.format.specs.Session.{State, sessionTests, asClosed}
+
+-- maxchunks: the greatest count of n tasks
+unfoldable pub maxchunksOf : ℕ → List ℕ → ℕ
+maxchunksOf n lists = greatestBelow n (countOf lists)
+
+-- "17, 18, 19"
+unfoldable pub closeRefusal : State → ℕ
+closeRefusal st = firstFailing (sessionTests st)
+
+-- "Closing writes META2, maxchunks and start_of_varheader, changes no other byte": META2 of these counts and cells, in the head's order
+unfoldable pub finished : Head → List ℕ → ℕ → List ℤ → List ℕ → List ℕ
+finished h lists maxchunks table image =
+    splice (splice image (meta2At h (sizeOf lists) maxchunks) (meta2 (isBig h) (h .n) maxchunks (countOf lists) (cell table)))
+    (lastAt (h .n)) (lastFields (isBig h) maxchunks (meta2At h (sizeOf lists) maxchunks))
+
+module _ (st : State) where
+  -- maxchunks of this session: the chunks in use, of the task that has most
+  abbrev pub maxchunksUsed : ℕ
+  maxchunksUsed = maxchunksOf (st .session .head .n) (st .lists)
+
+  unfoldable pub closedImage : List ℕ
+  closedImage = finished (st .session .head) (st .lists) maxchunksUsed (st .table) (st .image)
+
+  -- "marks the session closed, and reports the container's length: the end of META2"
+  unfoldable pub closeAnswer : Closed
+  closeAnswer =
+      cond (eqb (closeRefusal st) 0)
+      (record { refusal = 0; session = asClosed (st .session); length = endAt (st .session .head) (sizeOf (st .lists)) maxchunksUsed })
+      (record { refusal = closeRefusal st; session = st .session; length = 0 })
+
+  unfoldable pub closeImage : List ℕ
+  closeImage = cond (eqb (closeRefusal st) 0) closedImage (st .image)

@@ -1,0 +1,46 @@
+-- Loading a container (document 01, "Order when loading"): its tests, and what an accepted and a refused load hand back.
+use mathlib.Core.Bool.{cond}
+use mathlib.Core.List.{List, _∷_, _++_}
+use Prim.Native.Nat.{ℕ, _*_}
+use lib.Dec.{ltb, eqb}
+use lib.IntN.{ℤ}
+use lib.ListN.{length}
+use Rattle.lists.specs.Splice.{splice}
+use Rattle.format.specs.Refusals.{test, firstFailing}
+use Rattle.format.specs.Meta2.{meta2Part}
+use Rattle.format.specs.Record.{listsOf, noLists}
+use Rattle.format.specs.Judge.{tasksIn, maxchunksIn, headIn, rankIn, sizeIn, meta2In, meta1Tests, countIn, valuesIn, meta2Tests}
+use Rattle.format.specs.declared.loaded.LoadAnswer.{LoadAnswer}
+use Rattle.format.specs.declared.loaded.Loaded.{Loaded}
+use Rattle.format.specs.Loaded.{loadedOf, noLoaded}
+
+module _ (image : List ℕ) where
+  unfoldable pub meta2Bytes : List ℕ
+  meta2Bytes = meta2Part image (meta2In image) (tasksIn image) (maxchunksIn image)
+
+  -- "1, 2, 3 (1076), 4, 5, 6, 7, 3 (full), 8, 9, 10, 11, 12, 18 (table), 13", with a table of so many cells
+  unfoldable pub loadRefusal : ℕ → ℕ
+  loadRefusal cells =
+      firstFailing
+      (meta1Tests image (length image)
+      ++ (test 18 (ltb cells (tasksIn image * maxchunksIn image)) ∷ meta2Tests (headIn image) (sizeIn image) (maxchunksIn image) meta2Bytes))
+
+  unfoldable pub loadedIn : Loaded
+  loadedIn = loadedOf (headIn image) (maxchunksIn image) 0
+
+  unfoldable pub listsIn : List ℕ
+  listsIn = listsOf (tasksIn image) (rankIn image) (sizeIn image) (countIn (headIn image) meta2Bytes)
+
+  -- "A refused opening or load hands back a record of zeros marked closed"
+  unfoldable pub checkAnswer : ℕ → LoadAnswer
+  checkAnswer cells =
+      cond (eqb (loadRefusal cells) 0) (record { loaded = loadedIn; lists = listsIn; refusal = 0 })
+      (record { loaded = noLoaded; lists = noLists; refusal = loadRefusal cells })
+
+  unfoldable pub loadAnswer : List ℤ → LoadAnswer
+  loadAnswer table = checkAnswer (length table)
+
+  -- "A refused load leaves the table as it was; an accepted one fills just n·maxchunks cells"
+  unfoldable pub loadTable : List ℤ → List ℤ
+  loadTable table =
+      cond (eqb (loadRefusal (length table)) 0) (splice table 0 (valuesIn (headIn image) (maxchunksIn image) meta2Bytes)) table

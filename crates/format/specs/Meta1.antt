@@ -1,0 +1,119 @@
+-- Document 01, "The first metadata block, META1": where each field stands, and META1 as a list of bytes.
+use mathlib.Core.Bool.{Bool}
+use mathlib.Core.List.{List, [], _∷_, _++_, flatten}
+use Prim.Native.Nat.{ℕ, _+_, _-_, _*_}
+use lib.IntN.{ℤ, pos}
+use lib.ListN.{length, replicate}
+use Rattle.lists.specs.Below.{joinBelow}
+use Rattle.endian.specs.Signed.{signedAt, signedDigits}
+use Rattle.format.specs.Layout.{meta1End, dataStart}
+use Rattle.format.specs.declared.head.Head.{Head}
+use Rattle.format.specs.Record.{isBig}
+
+-- "`sion` in ASCII"
+abbrev pub magic : List ℕ
+magic = 115 ∷ 105 ∷ 111 ∷ 110 ∷ []
+
+-- fileformat_version, nfiles and filenumber have one value each; the order is told by the number 1
+abbrev pub orderNumber : ℕ
+orderNumber = 1
+
+abbrev pub formatVersion : ℕ
+formatVersion = 3
+
+abbrev pub fileCount : ℕ
+fileCount = 1
+
+abbrev pub fileNumber : ℕ
+fileNumber = 0
+
+-- the bytes of the filename prefix, and those before the ranks
+abbrev pub prefixLength : ℕ
+prefixLength = 1024
+
+abbrev pub fixedLength : ℕ
+fixedLength = 1076
+
+-- where the last two fields, maxchunks and start_of_varheader, stand
+abbrev pub lastAt : ℕ → ℕ
+lastAt n = fixedLength + 16 * n
+
+-- ---- the table of fields, read from an image in a byte order; i counts tasks from 0
+
+module _ (big : Bool) (image : List ℕ) where
+  abbrev pub orderField : ℤ
+  orderField = signedAt big 4 image 4
+
+  abbrev pub versionField : ℤ
+  versionField = signedAt big 4 image 8
+
+  abbrev pub patchField : ℤ
+  patchField = signedAt big 4 image 12
+
+  abbrev pub formatField : ℤ
+  formatField = signedAt big 4 image 16
+
+  abbrev pub blocksizeField : ℤ
+  blocksizeField = signedAt big 4 image 20
+
+  abbrev pub tasksField : ℤ
+  tasksField = signedAt big 4 image 24
+
+  abbrev pub filesField : ℤ
+  filesField = signedAt big 4 image 28
+
+  abbrev pub fileNumberField : ℤ
+  fileNumberField = signedAt big 4 image 32
+
+  abbrev pub rankField : ℕ → ℤ
+  rankField i = signedAt big 8 image (fixedLength + 8 * i)
+
+  abbrev pub sizeField : ℕ → ℕ → ℤ
+  sizeField n i = signedAt big 8 image (fixedLength + 8 * n + 8 * i)
+
+  abbrev pub maxchunksField : ℕ → ℤ
+  maxchunksField n = signedAt big 4 image (lastAt n)
+
+  abbrev pub startField : ℕ → ℤ
+  startField n = signedAt big 8 image (lastAt n + 4)
+
+-- ---- META1 as bytes, of a record
+
+-- the prefix "followed by zeros"
+abbrev pub padded : List ℕ → List ℕ
+padded prefix = prefix ++ replicate (prefixLength - length prefix) 0
+
+-- the last two fields: "At opening the last two fields are 0; closing fills them"
+unfoldable pub lastFields : Bool → ℕ → ℕ → List ℕ
+lastFields big maxchunks start = signedDigits big 4 (pos maxchunks) ++ signedDigits big 8 (pos start)
+
+-- all before them, field by field, of a head and the ranks and sizes of its tasks
+abbrev pub frontFields : Head → (ℕ → ℕ) → (ℕ → ℕ) → List ℕ → List (List ℕ)
+frontFields h rank size prefix =
+    let big = isBig h in
+    magic
+    ∷ signedDigits big 4 (pos orderNumber)
+    ∷ signedDigits big 4 (h .version)
+    ∷ signedDigits big 4 (h .patch)
+    ∷ signedDigits big 4 (pos formatVersion)
+    ∷ signedDigits big 4 (pos (h .blocksize))
+    ∷ signedDigits big 4 (pos (h .n))
+    ∷ signedDigits big 4 (pos fileCount)
+    ∷ signedDigits big 4 (pos fileNumber)
+    ∷ signedDigits big 8 (pos 0)
+    ∷ signedDigits big 8 (pos 0)
+    ∷ padded prefix
+    ∷ joinBelow (h .n) (λ i. signedDigits big 8 (pos (rank i)))
+    ∷ joinBelow (h .n) (λ i. signedDigits big 8 (pos (size i)))
+    ∷ []
+
+module _ (h : Head) (rank size : ℕ → ℕ) (prefix : List ℕ) where
+  unfoldable pub meta1Front : List ℕ
+  meta1Front = flatten (frontFields h rank size prefix)
+
+  unfoldable pub meta1 : ℕ → ℕ → List ℕ
+  meta1 maxchunks start = meta1Front ++ lastFields (isBig h) maxchunks start
+
+  -- what opening writes: "META1 and zeros up to D"
+  unfoldable pub openingBytes : List ℕ
+  openingBytes = meta1 0 0 ++ replicate (dataStart (h .blocksize) (h .n) - meta1End (h .n)) 0

@@ -1,0 +1,285 @@
+-- Document 01, "Order when loading" and the orders of the other entries, row by row: each input fails one test and the next one too, and has one
+-- fault fewer than the input before it. Only the paper's order has every test before its neighbour. Then 17 for each rule that a record can
+-- break. That the rules compute these numbers is proved in proofs/Numbers.antt.
+use mathlib.Core.Bool.{false}
+use mathlib.Core.List.{List, [], _∷_, _++_, map}
+use Prim.Native.Nat.{ℕ, _+_}
+use lib.IntN.{ℤ, pos, negsuc}
+use lib.ListN.{take, drop, replicate}
+use Rattle.lists.specs.Splice.{splice}
+use Rattle.format.specs.declared.head.Head.{Head}
+use Rattle.format.specs.Meta1.{meta1}
+use Rattle.format.specs.Meta2.{meta2}
+use Rattle.format.specs.Record.{entry, listsOf, headOf}
+use Rattle.format.specs.Session.{State, stateOf, sessionOf}
+use Rattle.format.specs.Open.{openRefusal}
+use Rattle.format.specs.Write.{requestOf, writeRefusal}
+use Rattle.format.specs.Close.{closeAnswer}
+use Rattle.format.specs.Loaded.{loadedOf}
+use Rattle.format.specs.Load.{loadRefusal}
+use Rattle.format.specs.Reads.{containerOf, chunkRefusal, totalAnswer, readRefusal}
+use Rattle.format.specs.Numbers.{Row, row}
+
+-- ---- loading: a container of one task that wrote 10 bytes in one chunk, with faults in its bytes, cut short, and with a table of so many cells
+
+-- a byte that is put at an offset
+pub record Fault : Type 0 where
+  pub at : ℕ
+  pub byte : ℕ
+
+abbrev pub fault : ℕ → ℕ → Fault
+fault at byte = record { at = at; byte = byte }
+
+abbrev pub one : List ℕ
+one =
+    meta1 (headOf 0 (pos 1) (pos 7) 512 1) (λ i. 0) (λ i. 10) [] 1 2048
+    ++ (replicate 944 0 ++ meta2 false 1 1 (λ i. 1) (λ j. pos 10))
+
+-- one byte for each test but 3 and 18: 1, 2, 4, 5, 6, 7, 8, 9, 10, 11, 12, 13
+abbrev pub faults : List Fault
+faults =
+    fault 3 111
+    ∷ fault 4 0
+    ∷ fault 16 4
+    ∷ fault 21 3
+    ∷ fault 24 65
+    ∷ fault 28 2
+    ∷ fault 1083 128
+    ∷ fault 1084 0
+    ∷ fault 1097 0
+    ∷ fault 1092 33
+    ∷ fault 1097 7
+    ∷ fault 2048 2
+    ∷ []
+
+-- an image with these faults; of two for one byte the first counts
+abbrev pub spoilt : List Fault → List ℕ → List ℕ
+spoilt [] image = image
+spoilt (f ∷ fs) image = splice (spoilt fs image) (f .at) (f .byte ∷ [])
+
+-- the container with so many of the faults mended, cut to so many bytes, with a table of so many cells
+abbrev pub loadOf : ℕ → ℕ → ℕ → ℕ
+loadOf mended bytes cells = loadRefusal (take bytes (spoilt (drop mended faults) one)) cells
+
+-- ---- opening: an order, a blocksize, ranks, sizes, how many bytes of a prefix, K, and the lengths of the image and the table
+
+abbrev pub openOf : ℕ → ℕ → List ℕ → List ℕ → ℕ → ℕ → ℕ → ℕ → ℕ
+openOf order blocksize ranks sizes prefix planned =
+    openRefusal
+    (record {
+      plan = record { order = order; version = pos 1; patch = pos 7; blocksize = blocksize; planned = planned };
+      ranks = ranks;
+      sizes = sizes;
+      prefix = replicate prefix 97;
+    })
+
+-- ---- writes, closes and reads of a record of one task that wrote 10 bytes in one chunk: its mark, the bytes of its image, its table
+
+abbrev pub oneHead : Head
+oneHead = headOf 0 (pos 1) (pos 7) 512 1
+
+abbrev pub oneList : List ℕ
+oneList = listsOf 1 (λ i. 0) (λ i. 10) (λ i. 1)
+
+abbrev pub sessionAt : ℕ → ℕ → List ℤ → State
+sessionAt closed bytes table = stateOf (sessionOf oneHead 1 closed) oneList (replicate bytes 0) table
+
+-- of a task, so many bytes
+abbrev pub writeOf : State → ℕ → ℕ → ℕ
+writeOf st task bytes = writeRefusal st (requestOf task (replicate bytes 7))
+
+abbrev pub closeOf : State → ℕ
+closeOf st = closeAnswer st .refusal
+
+-- a chunk, and a read from a place
+abbrev pub chunkAt : ℕ → ℕ → List ℤ → ℕ → ℕ → ℕ
+chunkAt closed bytes table = chunkRefusal (containerOf (loadedOf oneHead 1 closed) oneList (replicate bytes 0) table)
+
+abbrev pub readAt : ℕ → ℕ → List ℤ → ℕ → ℕ → ℕ
+readAt closed bytes table = readRefusal (containerOf (loadedOf oneHead 1 closed) oneList (replicate bytes 0) table)
+
+-- ---- what test 17 judges: an order, a blocksize, n, two ranks, two sizes, two counts, K or maxchunks, and the closed mark
+
+pub record Numbers17 : Type 0 where
+  pub order : ℕ
+  pub blocksize : ℕ
+  pub n : ℕ
+  pub ranks : List ℕ
+  pub sizes : List ℕ
+  pub counts : List ℕ
+  pub chunks : ℕ
+  pub closed : ℕ
+
+abbrev pub numbers : ℕ → ℕ → ℕ → List ℕ → List ℕ → List ℕ → ℕ → ℕ → Numbers17
+numbers order blocksize n ranks sizes counts chunks closed =
+    record {
+      order = order;
+      blocksize = blocksize;
+      n = n;
+      ranks = ranks;
+      sizes = sizes;
+      counts = counts;
+      chunks = chunks;
+      closed = closed;
+    }
+
+abbrev pub headAt : Numbers17 → Head
+headAt r = headOf (r .order) (pos 1) (pos 7) (r .blocksize) (r .n)
+
+abbrev pub listsAt : Numbers17 → List ℕ
+listsAt r = listsOf 2 (entry (r .ranks)) (entry (r .sizes)) (entry (r .counts))
+
+-- the record with no image and no table: sound, it is refused with 18
+abbrev pub sessionNumber : Numbers17 → ℕ
+sessionNumber r = closeOf (stateOf (sessionOf (headAt r) (r .chunks) (r .closed)) (listsAt r) [] [])
+
+abbrev pub loadedNumber : Numbers17 → ℕ
+loadedNumber r = totalAnswer (containerOf (loadedOf (headAt r) (r .chunks) (r .closed)) (listsAt r) [] []) 1 .refusal
+
+-- what both kinds of record can break: the order, the blocksize, n, a rank, two ranks, a size, a count, the chunks, the closed mark
+abbrev pub broken : List Numbers17
+broken =
+    numbers 2 512 2 (0 ∷ 1 ∷ []) (500 ∷ 600 ∷ []) (2 ∷ 3 ∷ []) 3 0
+    ∷ numbers 0 256 2 (0 ∷ 1 ∷ []) (500 ∷ 600 ∷ []) (2 ∷ 3 ∷ []) 3 0
+    ∷ numbers 0 768 2 (0 ∷ 1 ∷ []) (500 ∷ 600 ∷ []) (2 ∷ 3 ∷ []) 3 0
+    ∷ numbers 0 8_388_608 2 (0 ∷ 1 ∷ []) (500 ∷ 600 ∷ []) (2 ∷ 3 ∷ []) 3 0
+    ∷ numbers 0 512 0 (0 ∷ 1 ∷ []) (500 ∷ 600 ∷ []) (2 ∷ 3 ∷ []) 3 0
+    ∷ numbers 0 512 65 (0 ∷ 1 ∷ []) (500 ∷ 600 ∷ []) (2 ∷ 3 ∷ []) 3 0
+    ∷ numbers 0 512 2 (0 ∷ 2_147_483_648 ∷ []) (500 ∷ 600 ∷ []) (2 ∷ 3 ∷ []) 3 0
+    ∷ numbers 0 512 2 (1 ∷ 1 ∷ []) (500 ∷ 600 ∷ []) (2 ∷ 3 ∷ []) 3 0
+    ∷ numbers 0 512 2 (0 ∷ 1 ∷ []) (500 ∷ 0 ∷ []) (2 ∷ 3 ∷ []) 3 0
+    ∷ numbers 0 512 2 (0 ∷ 1 ∷ []) (500 ∷ 1_073_741_825 ∷ []) (2 ∷ 3 ∷ []) 3 0
+    ∷ numbers 0 512 2 (0 ∷ 1 ∷ []) (500 ∷ 600 ∷ []) (2 ∷ 4 ∷ []) 3 0
+    ∷ numbers 0 512 2 (0 ∷ 1 ∷ []) (500 ∷ 600 ∷ []) (2 ∷ 33 ∷ []) 33 0
+    ∷ numbers 0 512 2 (0 ∷ 1 ∷ []) (500 ∷ 600 ∷ []) (2 ∷ 3 ∷ []) 3 1
+    ∷ numbers 0 512 2 (0 ∷ 1 ∷ []) (500 ∷ 600 ∷ []) (2 ∷ 3 ∷ []) 3 256
+    ∷ []
+
+-- sound ones, at the ends of what is allowed
+abbrev pub sound : List Numbers17
+sound =
+    numbers 1 512 2 (0 ∷ 2_147_483_647 ∷ []) (1 ∷ 1_073_741_824 ∷ []) (2 ∷ 3 ∷ []) 3 0
+    ∷ numbers 0 4_194_304 2 (1 ∷ 0 ∷ []) (500 ∷ 600 ∷ []) (32 ∷ 0 ∷ []) 32 0
+    ∷ []
+
+-- K is over every count or equal to it, and at least 1; maxchunks is the greatest count, and may be 0
+abbrev pub chunksOver : Numbers17
+chunksOver = numbers 0 512 2 (0 ∷ 1 ∷ []) (500 ∷ 600 ∷ []) (2 ∷ 1 ∷ []) 3 0
+
+abbrev pub chunksNone : Numbers17
+chunksNone = numbers 0 512 2 (0 ∷ 1 ∷ []) (500 ∷ 600 ∷ []) (0 ∷ 0 ∷ []) 0 0
+
+-- n is at least 1, whatever else is right
+abbrev pub tasksNone : Numbers17
+tasksNone = numbers 0 512 0 [] [] [] 0 0
+
+unfoldable pub orderTable : List Row
+orderTable =
+    -- loading: "1, 2, 3 (1076), 4, 5, 6, 7, 3 (full), 8, 9, 10, 11, 12, 18 (table), 13"
+    row
+    (loadOf 0 1075 0
+    ∷ loadOf 1 1075 0
+    ∷ loadOf 2 1075 0
+    ∷ loadOf 2 1076 0
+    ∷ loadOf 3 1103 0
+    ∷ loadOf 4 1103 0
+    ∷ loadOf 5 1103 0
+    ∷ loadOf 6 1103 0
+    ∷ loadOf 6 2063 0
+    ∷ loadOf 7 2063 0
+    ∷ loadOf 8 2063 0
+    ∷ loadOf 9 2063 0
+    ∷ loadOf 10 2063 0
+    ∷ loadOf 11 2063 0
+    ∷ loadOf 11 2064 0
+    ∷ loadOf 11 2064 1
+    ∷ loadOf 12 2064 1
+    ∷ [])
+    (1 ∷ 2 ∷ 3 ∷ 4 ∷ 5 ∷ 6 ∷ 7 ∷ 3 ∷ 8 ∷ 9 ∷ 10 ∷ 11 ∷ 12 ∷ 12 ∷ 18 ∷ 13 ∷ 0 ∷ [])
+    -- opening: "2, 5, 6, 21, 8, 9, 20, 18"
+    ∷ row
+    (openOf 2 768 (3 ∷ 3 ∷ []) (0 ∷ []) 1025 33 6207 5
+    ∷ openOf 0 768 (3 ∷ 3 ∷ []) (0 ∷ []) 1025 33 6207 5
+    ∷ openOf 0 512 (3 ∷ 3 ∷ []) (0 ∷ []) 1025 33 6207 5
+    ∷ openOf 0 512 (3 ∷ 3 ∷ []) (0 ∷ 600 ∷ []) 1025 33 6207 5
+    ∷ openOf 0 512 (3 ∷ 3 ∷ []) (0 ∷ 600 ∷ []) 1024 33 6207 5
+    ∷ openOf 0 512 (3 ∷ 4 ∷ []) (0 ∷ 600 ∷ []) 1024 33 6207 5
+    ∷ openOf 0 512 (3 ∷ 4 ∷ []) (500 ∷ 600 ∷ []) 1024 33 6207 5
+    ∷ openOf 0 512 (3 ∷ 4 ∷ []) (500 ∷ 600 ∷ []) 1024 3 6207 5
+    ∷ openOf 0 512 (3 ∷ 4 ∷ []) (500 ∷ 600 ∷ []) 1024 3 6208 5
+    ∷ openOf 0 512 (3 ∷ 4 ∷ []) (500 ∷ 600 ∷ []) 1024 3 6208 6
+    ∷ [])
+    (2 ∷ 5 ∷ 6 ∷ 21 ∷ 8 ∷ 9 ∷ 20 ∷ 18 ∷ 18 ∷ 0 ∷ [])
+    -- no task before 21; the order 3; one size too many or too few; a prefix of 1,025 bytes; a rank over the greatest; no K
+    ∷ row
+    (openOf 0 512 [] [] 1025 3 6208 6
+    ∷ openOf 3 512 (3 ∷ 4 ∷ []) (500 ∷ 600 ∷ []) 0 3 6208 6
+    ∷ openOf 1 512 (3 ∷ 4 ∷ []) (500 ∷ 600 ∷ 1 ∷ []) 0 3 6208 6
+    ∷ openOf 1 512 (3 ∷ 4 ∷ []) (500 ∷ []) 0 3 6208 6
+    ∷ openOf 1 512 (3 ∷ 4 ∷ []) (500 ∷ 600 ∷ []) 1025 3 6208 6
+    ∷ openOf 1 512 (3 ∷ 2_147_483_648 ∷ []) (500 ∷ 600 ∷ []) 0 3 6208 6
+    ∷ openOf 1 512 (3 ∷ 4 ∷ []) (500 ∷ 600 ∷ []) 0 0 6208 6
+    ∷ openOf 1 512 (3 ∷ 4 ∷ []) (500 ∷ 600 ∷ []) 0 3 6208 6
+    ∷ [])
+    (6 ∷ 2 ∷ 6 ∷ 6 ∷ 21 ∷ 8 ∷ 20 ∷ 0 ∷ [])
+    -- a write: "17, 18, 19, 14, empty accepted, 15, 16"
+    ∷ row
+    (writeOf (sessionAt 1 2063 (pos 11 ∷ [])) 2 11
+    ∷ writeOf (sessionAt 0 2063 (pos 11 ∷ [])) 2 11
+    ∷ writeOf (sessionAt 0 2064 []) 2 11
+    ∷ writeOf (sessionAt 0 2064 (pos 11 ∷ [])) 2 11
+    ∷ writeOf (sessionAt 0 2064 (pos 10 ∷ [])) 2 11
+    ∷ writeOf (sessionAt 0 2064 (pos 10 ∷ [])) 1 11
+    ∷ writeOf (sessionAt 0 2064 (pos 10 ∷ [])) 1 10
+    ∷ writeOf (sessionAt 0 2064 (pos 0 ∷ [])) 1 10
+    ∷ [])
+    (17 ∷ 18 ∷ 18 ∷ 19 ∷ 14 ∷ 15 ∷ 16 ∷ 0 ∷ [])
+    -- the same of an empty request
+    ∷ row
+    (writeOf (sessionAt 1 2063 (pos 11 ∷ [])) 0 0
+    ∷ writeOf (sessionAt 0 2063 (pos 11 ∷ [])) 0 0
+    ∷ writeOf (sessionAt 0 2064 (pos 11 ∷ [])) 0 0
+    ∷ writeOf (sessionAt 0 2064 (pos 10 ∷ [])) 0 0
+    ∷ writeOf (sessionAt 0 2064 (pos 10 ∷ [])) 1 0
+    ∷ [])
+    (17 ∷ 18 ∷ 19 ∷ 14 ∷ 0 ∷ [])
+    -- a close: "17, 18, 19"
+    ∷ row
+    (closeOf (sessionAt 1 2063 (pos 11 ∷ []))
+    ∷ closeOf (sessionAt 0 2063 (pos 11 ∷ []))
+    ∷ closeOf (sessionAt 0 2064 [])
+    ∷ closeOf (sessionAt 0 2064 (pos 11 ∷ []))
+    ∷ closeOf (sessionAt 0 2064 (negsuc 0 ∷ []))
+    ∷ closeOf (sessionAt 0 2064 (pos 10 ∷ []))
+    ∷ [])
+    (17 ∷ 18 ∷ 18 ∷ 19 ∷ 19 ∷ 0 ∷ [])
+    -- the reads: "17, 18, 19, 14, then 22 or 23"
+    ∷ row
+    (chunkAt 1 2063 (pos 11 ∷ []) 2 2
+    ∷ chunkAt 0 2063 (pos 11 ∷ []) 2 2
+    ∷ chunkAt 0 2064 [] 2 2
+    ∷ chunkAt 0 2064 (pos 11 ∷ []) 2 2
+    ∷ chunkAt 0 2064 (negsuc 0 ∷ []) 2 2
+    ∷ chunkAt 0 2064 (pos 10 ∷ []) 2 2
+    ∷ chunkAt 0 2064 (pos 10 ∷ []) 1 2
+    ∷ chunkAt 0 2064 (pos 10 ∷ []) 1 0
+    ∷ chunkAt 0 2064 (pos 10 ∷ []) 1 1
+    ∷ [])
+    (17 ∷ 18 ∷ 18 ∷ 19 ∷ 19 ∷ 14 ∷ 22 ∷ 22 ∷ 0 ∷ [])
+    ∷ row
+    (readAt 1 2063 (pos 11 ∷ []) 2 11
+    ∷ readAt 0 2063 (pos 11 ∷ []) 2 11
+    ∷ readAt 0 2064 (pos 11 ∷ []) 2 11
+    ∷ readAt 0 2064 (pos 10 ∷ []) 2 11
+    ∷ readAt 0 2064 (pos 10 ∷ []) 1 11
+    ∷ readAt 0 2064 (pos 10 ∷ []) 1 10
+    ∷ [])
+    (17 ∷ 18 ∷ 19 ∷ 14 ∷ 23 ∷ 0 ∷ [])
+    -- 17, for each rule of a record, and not for the sound ones
+    ∷ row (map sessionNumber broken) (replicate 14 17)
+    ∷ row (map loadedNumber broken) (replicate 14 17)
+    ∷ row (map sessionNumber sound ++ map loadedNumber sound) (replicate 4 18)
+    ∷ row
+    (sessionNumber chunksOver ∷ loadedNumber chunksOver ∷ sessionNumber chunksNone ∷ loadedNumber chunksNone ∷ loadedNumber tasksNone ∷ [])
+    (18 ∷ 17 ∷ 17 ∷ 18 ∷ 17 ∷ [])
+    ∷ []

@@ -1,0 +1,50 @@
+-- Document 01, "A session": the record of a session, its numbers and its lists, with its image and its table; when it is sound, what is tested of
+-- it at every call, and how it is made and changed.
+use mathlib.Core.Bool.{Bool, _&&_}
+use mathlib.Core.List.{List}
+use Prim.Native.Nat.{ℕ}
+use lib.Dec.{leb}
+use lib.IntN.{ℤ, pos}
+use lib.ListN.{set}
+use Rattle.lists.specs.Below.{allBelow}
+use Rattle.format.specs.Limits.{plannedRule}
+use Rattle.format.specs.declared.head.Head.{Head}
+use Rattle.format.specs.Refusals.{Test}
+use Rattle.format.specs.Record.{countOf, countAt, headSound, recordTests, noHead}
+use Rattle.format.specs.declared.session.Session.{Session}
+
+pub record State : Type 0 where
+  pub session : Session
+  pub lists : List ℕ
+  pub image : List ℕ
+  pub table : List ℤ
+
+abbrev pub stateOf : Session → List ℕ → List ℕ → List ℤ → State
+stateOf session lists image table = record { session = session; lists = lists; image = image; table = table }
+
+-- "A record is unsound if its fields break the rules above (a session's counts are at most K; ..)"
+unfoldable pub sessionSound : Session → List ℕ → Bool
+sessionSound s lists =
+    headSound (s .head) lists && plannedRule (pos (s .planned)) && allBelow (s .head .n) (λ i. leb (countOf lists i) (s .planned))
+
+-- "17, 18, 19"
+unfoldable pub sessionTests : State → List Test
+sessionTests st =
+    recordTests (st .session .closed) (sessionSound (st .session) (st .lists)) (st .session .head) (st .lists) (st .session .planned) (st .image)
+    (st .table)
+
+-- ---- the places where a session's record is made or changed
+
+abbrev pub sessionOf : Head → ℕ → ℕ → Session
+sessionOf head planned closed = record { head = head; planned = planned; closed = closed }
+
+-- the numbers of "a record of zeros asClosed closed"
+abbrev pub noSession : Session
+noSession = sessionOf noHead 0 1
+
+abbrev pub asClosed : Session → Session
+asClosed s = sessionOf (s .head) (s .planned) 1
+
+-- with another count of task i + 1
+abbrev pub withCount : List ℕ → ℕ → ℕ → List ℕ
+withCount lists i count = set lists (countAt i) count

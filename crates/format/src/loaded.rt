@@ -1,0 +1,34 @@
+// The record of a loaded container, which is never mixed with a session's, and what loading and the reads answer.
+use crate::head::Head;
+use crate::head::LISTS;
+
+// A loaded container: the greatest of its counts, and the closed mark, 0 where it is unset. Its lists are lent beside it.
+#[repr(C)]
+pub struct Loaded {
+    pub head: Head,
+    pub maxchunks: u32,
+    pub closed: u32,
+}
+
+// What loading answers. In every answer `refusal` is 0 or a number of `meta::refusal`.
+#[repr(C)]
+pub struct LoadAnswer {
+    pub loaded: Loaded,
+    pub lists: [u64; LISTS],
+    pub refusal: u32,
+}
+
+// Where the written bytes of one chunk lie in the image.
+#[repr(C)]
+pub struct Part {
+    pub refusal: u32,
+    pub start: u64,
+    pub length: u64,
+}
+
+// What a copying read answers, with the bytes copied, and a task's total.
+#[repr(C)]
+pub struct ByteCount {
+    pub refusal: u32,
+    pub bytes: u64,
+}

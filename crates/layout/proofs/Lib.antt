@@ -1,4 +1,0 @@
-pub mod Rounding
-pub mod Power
-pub mod Bounds
-pub mod Chunks

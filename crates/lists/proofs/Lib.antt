@@ -1,0 +1,5 @@
+pub mod Below
+pub mod Splice
+pub mod Pieces
+pub mod Logic
+pub mod Copies

@@ -1,0 +1,98 @@
+// Loading: a container checked whole, its record handed back and its values put into the table.
+ghost use mathlib.Core.Path.{_≡_};
+ghost use Rattle.lists.specs.Splice.{splice};
+ghost use Rattle.format.specs.declared.head.Head.{Head};
+ghost use Rattle.format.specs.Meta2.{meta2Part};
+ghost use Rattle.format.specs.Record.{sizeOf, noLists, meta2At};
+ghost use Rattle.format.specs.Judge.{valuesIn};
+ghost use Rattle.format.specs.declared.loaded.LoadAnswer.{LoadAnswer};
+ghost use Rattle.format.specs.Loaded.{noLoaded};
+ghost use Rattle.format.specs.Load.{checkAnswer, loadAnswer, loadTable};
+ghost use Rattle.format.specs.Passed.{Meta2Fits};
+use format::head;
+use format::head::Head;
+use format::head::LISTS;
+use format::loaded::LoadAnswer;
+use format::loaded::Loaded;
+use format::refusal;
+use rules::heads;
+
+// A refusal beside a record of zeros marked closed.
+fn no_container(refusal: u32) -> LoadAnswer
+    ensures { λ r. ⌜ r ≡ record { loaded = noLoaded; lists = noLists; refusal = refusal } ⌝ }
+{
+    let head = heads::no_head();
+    let lists = [0; LISTS];
+    LoadAnswer {
+        loaded: Loaded {
+            head,
+            maxchunks: 0,
+            closed: 1,
+        },
+        lists,
+        refusal,
+    }
+}
+
+// Checks an image, tests 1 to 12, 18 and 13 in the order of document 01, for a table of so many cells; no table is touched.
+pub fn check(image: &[u8], cells: usize) -> LoadAnswer
+    ensures { λ r. ⌜ r ≡ checkAnswer (now (image .entry)) cells ⌝ }
+{
+    let len = image.len() as u64;
+    let one = meta1::judge_fixed(image, len);
+    if one.refusal != 0 {
+        return no_container(one.refusal);
+    }
+    let head = one.head;
+    let mut lists = [0; LISTS];
+    let last = meta1::judge_lists(image, len, head, &mut lists);
+    if last.refusal != 0 {
+        return no_container(last.refusal);
+    }
+    let maxchunks = last.maxchunks;
+    if cells < head.n as usize * maxchunks as usize {
+        return no_container(refusal::TOO_SHORT);
+    }
+    let start = last.start as usize;
+    let end = start + layout::meta2_length(head.n, maxchunks) as usize;
+    let refusal = meta2::judge(&image[start..end], head, maxchunks, &mut lists);
+    if refusal != 0 {
+        return no_container(refusal);
+    }
+    LoadAnswer {
+        loaded: Loaded {
+            head,
+            maxchunks,
+            closed: 0,
+        },
+        lists,
+        refusal: 0,
+    }
+}
+
+// The values of a container that passed its tests, into the table's start.
+pub fn fill(image: &[u8], h: Head, lists: &[u64], maxchunks: u32, table: &mut [i64])
+    requires { ⌜ Meta2Fits h (now lists) maxchunks (now image) (now table) ⌝ }
+    ensures { λ _. ⌜ now (table .exit) ≡ splice (now (table .entry)) 0 (valuesIn h maxchunks (meta2Part (now (image .entry)) (meta2At h (sizeOf (now (lists .entry))) maxchunks) (h .n) maxchunks)) ⌝ }
+{
+    let sizes = &lists[head::SIZES..head::COUNTS];
+    let start = layout::meta2_start(sizes, h.n, h.blocksize, maxchunks) as usize;
+    let end = start + layout::meta2_length(h.n, maxchunks) as usize;
+    let n = h.n as usize;
+    let cells = n * maxchunks as usize;
+    meta2::fill(table, cells, &image[start..end], 8 * n, h.order == 1);
+}
+
+// Checks an image. Accepted, the record is handed back and the first n times maxchunks cells are filled.
+pub fn load(image: &[u8], table: &mut [i64]) -> LoadAnswer
+    ensures { λ r. ⌜ r ≡ loadAnswer (now (image .entry)) (now (table .entry)) ⌝ }
+    ensures { λ _. ⌜ now (table .exit) ≡ loadTable (now (image .entry)) (now (table .entry)) ⌝ }
+{
+    let answer = check(image, table.len());
+    if answer.refusal != 0 {
+        return answer;
+    }
+    let loaded = answer.loaded;
+    fill(image, loaded.head, &answer.lists, loaded.maxchunks, table);
+    answer
+}

@@ -1,0 +1,230 @@
+// META2, the second metadata block: its counts and values judged from its own part of the image, its values put into a table, and the
+// same rule for the cells of a table.
+ghost use mathlib.Core.Path.{_≡_};
+ghost use mathlib.Core.Bool.{cond, _&&_};
+ghost use Prim.Native.Nat.{_+_, _*_, _<_, _≤_, _^_, min};
+ghost use lib.Dec.{ltb, leb};
+ghost use lib.IntN.{pos};
+ghost use lib.ListN.{length, getD};
+ghost use Rattle.lists.specs.Below.{allBelow, listBelow};
+ghost use Rattle.endian.specs.Number.{numberAt};
+ghost use Rattle.endian.specs.Signed.{signedAt, natural};
+ghost use Rattle.lists.specs.Splice.{splice};
+ghost use Rattle.format.specs.Limits.{maxBlocks, maxSize, Sound};
+ghost use Rattle.format.specs.Layout.{capacity, meta2Length};
+ghost use Rattle.format.specs.declared.head.Head.{Head};
+ghost use Rattle.format.specs.Refusals.{firstFailing};
+ghost use Rattle.format.specs.Meta2.{valueRule, valuesRule, valueField};
+ghost use Rattle.format.specs.Record.{cell, sizeOf, isBig, withCounts};
+ghost use Rattle.meta2.specs.Judging.{ruleAt, Meta2There, CountsRead};
+ghost use Rattle.format.specs.Judge.{meta2Tests};
+use endian::read;
+use endian::sign;
+use format::head;
+use format::head::Head;
+use format::refusal;
+use rules::heads;
+
+// The top bit alone.
+const TOP: u64 = 0x8000_0000_0000_0000;
+
+// So many values are decoded at a time to be judged.
+const TILE: usize = 128;
+
+// `bad`, with its top bit set if bits is over holds: bits, or the difference, then has that bit.
+fn over(bad: u64, holds: u64, bits: u64) -> u64
+    requires { ⌜ holds < 2 ^ 63 ⌝ }
+    ensures { λ r. ⌜ ltb r (2 ^ 63) ≡ (ltb bad (2 ^ 63) && leb bits holds) ⌝ }
+{
+    bad | bits | std::num::wrapping_sub_u64(holds, bits)
+}
+
+// All ones where a task of so many chunks uses chunk k + 1, else 0.
+fn use_mask(count: u64, k: u64) -> u64
+    requires { ⌜ k < 2 ^ 63 ⌝ }
+    ensures { λ r. ⌜ r ≡ cond (ltb k count) 18446744073709551615 0 ⌝ }
+{
+    let bit = (count | std::num::wrapping_sub_u64(k, count)) >> 63;
+    std::num::wrapping_sub_u64(0, bit)
+}
+
+// `bad`, with its top bit set if the value breaks its rule: at most what the chunk holds, and -1 where it is not used. There is no branch, so
+// that the machine can judge several values at a time.
+fn value_bad(bad: u64, count: u64, k: u64, holds: u64, value: i64) -> u64
+    requires { ⌜ (k < 2 ^ 63) × (holds < 2 ^ 63) ⌝ }
+    ensures { λ r. ⌜ ltb r (2 ^ 63) ≡ (ltb bad (2 ^ 63) && valueRule (ltb k count) holds value) ⌝ }
+{
+    let mask = use_mask(count, k);
+    over(bad, holds & mask, sign::bits64(value) ^ (mask ^ u64::MAX))
+}
+
+// The cells of chunk k + 1, which stand from `at` on, one for each of n tasks, of which the first is task `first` + 1.
+fn row_ok<'a>(
+    cells: &[i64],
+    at: usize,
+    k: u64,
+    first: usize,
+    n: usize,
+    blocksize: u32,
+    sizes: &'a [u64],
+    counts: &'a [u64],
+) -> bool
+    requires { ⌜ Sound blocksize (first + n) (now sizes) × (k < 2 ^ 63) ⌝ }
+    requires { ⌜ (first + n ≤ length (now counts)) × (at + n ≤ length (now cells)) ⌝ }
+    ensures { λ r. ⌜ r ≡ allBelow n (λ i. valueRule (ltb k (getD (now (counts .entry)) (first + i) 0)) (capacity blocksize (getD (now (sizes .entry)) (first + i) 0)) (getD (now (cells .entry)) (at + i) (pos 0))) ⌝ }
+{
+    let mut bad = 0;
+    let mut i = 0;
+    while i < n {
+        let task = first + i;
+        let holds = layout::chunk_holds(sizes[task], blocksize);
+        bad = value_bad(bad, counts[task], k, holds, cells[at + i]);
+        i += 1;
+    }
+    bad < TOP
+}
+
+fn least(a: usize, b: usize) -> usize
+    ensures { λ r. ⌜ r ≡ min a b ⌝ }
+{
+    if a < b {
+        return a;
+    }
+    b
+}
+
+// So many cells, which stand one after the other: those of chunk k + 1 from task `first` + 1 on, and then those of the chunks that follow.
+fn span_ok<'a>(
+    cells: &[i64],
+    count: usize,
+    k: u64,
+    first: usize,
+    n: usize,
+    blocksize: u32,
+    sizes: &'a [u64],
+    counts: &'a [u64],
+) -> bool
+    requires { ⌜ Sound blocksize n (now sizes) × (n ≤ length (now counts)) ⌝ }
+    requires { ⌜ (count ≤ length (now cells)) × (k + count < 2 ^ 63) × (0 < count → first < n) ⌝ }
+    ensures { λ r. ⌜ r ≡ allBelow count (λ t. ruleAt n blocksize (now (sizes .entry)) (now (counts .entry)) (k * n + first + t) (getD (now (cells .entry)) t (pos 0))) ⌝ }
+{
+    let mut at = 0;
+    let mut row = k;
+    let mut i = first;
+    while at < count {
+        let w = least(n - i, count - at);
+        if !row_ok(cells, at, row, i, w, blocksize, sizes, counts) {
+            return false;
+        }
+        at += w;
+        row += 1;
+        i = 0;
+    }
+    true
+}
+
+// The cells of all m chunks of a record, by META2's rule.
+pub fn cells_ok<'a>(
+    table: &[i64],
+    n: usize,
+    blocksize: u32,
+    sizes: &'a [u64],
+    counts: &'a [u64],
+    m: u32,
+) -> bool
+    requires { ⌜ Sound blocksize n (now sizes) × (m ≤ maxBlocks) ⌝ }
+    requires { ⌜ (n ≤ length (now counts)) × (n * m ≤ length (now table)) ⌝ }
+    ensures { λ r. ⌜ r ≡ valuesRule n m (λ i. capacity blocksize (getD (now (sizes .entry)) i 0)) (λ i. getD (now (counts .entry)) i 0) (λ j. getD (now (table .entry)) j (pos 0)) ⌝ }
+{
+    span_ok(table, n * m as usize, 0, 0, n, blocksize, sizes, counts)
+}
+
+// So many values, which stand from `at` on, into the table's start.
+pub fn fill(table: &mut [i64], cells: usize, part: &[u8], at: usize, big: bool)
+    requires { ⌜ (cells ≤ length (now table)) × (at + 8 * cells ≤ length (now part)) ⌝ }
+    ensures { λ _. ⌜ now (table .exit) ≡ splice (now (table .entry)) 0 (listBelow cells (λ j. signedAt big 8 (now (part .entry)) (at + 8 * j))) ⌝ }
+{
+    let mut j = 0;
+    while j < cells {
+        table[j] = read::get_i64(part, at + 8 * j, big);
+        j += 1;
+    }
+}
+
+// The values of META2, by the rule for cells: a tile of them at a time.
+fn values_ok<'a>(
+    part: &[u8],
+    big: bool,
+    n: usize,
+    blocksize: u32,
+    sizes: &'a [u64],
+    counts: &'a [u64],
+    m: u32,
+) -> bool
+    requires { ⌜ Sound blocksize n (now sizes) × (m ≤ maxBlocks) ⌝ }
+    requires { ⌜ (n ≤ length (now counts)) × (meta2Length n m ≤ length (now part)) ⌝ }
+    ensures { λ r. ⌜ r ≡ valuesRule n m (λ i. capacity blocksize (getD (now (sizes .entry)) i 0)) (λ i. getD (now (counts .entry)) i 0) (valueField big (now (part .entry)) n) ⌝ }
+{
+    let cells = n * m as usize;
+    let mut tile = [0i64; TILE];
+    let mut j = 0;
+    while j < cells {
+        let w = least(cells - j, TILE);
+        fill(&mut tile, w, part, 8 * n + 8 * j, big);
+        if !span_ok(&tile, w, (j / n) as u64, j % n, n, blocksize, sizes, counts) {
+            return false;
+        }
+        j += w;
+    }
+    true
+}
+
+// Test 13, of counts that were read.
+fn judge_read(part: &[u8], h: Head, maxchunks: u32, lists: &[u64]) -> u32
+    requires { ⌜ CountsRead (now part) h maxchunks (now lists) ⌝ }
+    ensures { λ r. ⌜ r ≡ firstFailing (meta2Tests h (sizeOf (now (lists .entry))) maxchunks (now (part .entry))) ⌝ }
+{
+    let big = h.order == 1;
+    let n = h.n as usize;
+    let counts = &lists[head::COUNTS..head::LISTS];
+    if !heads::counts_ok(counts, n, maxchunks) {
+        return refusal::BAD_META2;
+    }
+    let sizes = &lists[head::SIZES..head::COUNTS];
+    if !values_ok(part, big, n, h.blocksize, sizes, counts, maxchunks) {
+        return refusal::BAD_META2;
+    }
+    0
+}
+
+// Test 13, where META1 passed and gave this head, maxchunks, and lists of ranks and sizes: the counts are put beside them.
+pub fn judge(part: &[u8], h: Head, maxchunks: u32, lists: &mut [u64]) -> u32
+    requires { ⌜ Meta2There (now part) h maxchunks (now lists) ⌝ }
+    ensures { λ r. ⌜ r ≡ firstFailing (meta2Tests h (sizeOf (now (lists .entry))) maxchunks (now (part .entry))) ⌝ }
+    ensures { λ _. ⌜ now (lists .exit) ≡ withCounts (now (lists .entry)) (h .n) (λ i. numberAt (isBig h) 8 (now (part .entry)) (8 * i)) ⌝ }
+{
+    let big = h.order == 1;
+    let n = h.n as usize;
+    meta1::read_stripe(lists, head::COUNTS, part, 0, n, big);
+    judge_read(part, h, maxchunks, lists)
+}
+
+// The bytes that a used cell says were written.
+pub fn written(table: &[i64], at: usize) -> u64
+    requires { ⌜ at < length (now table) ⌝ }
+    ensures { λ r. ⌜ r ≡ natural (cell (now (table .entry)) at) ⌝ }
+{
+    let bytes = table[at];
+    if bytes < 0 {
+        return 0;
+    }
+    bytes as u64
+}
+
+// The cell that says so many bytes were written.
+pub fn cell_of(bytes: u64) -> i64
+    requires { ⌜ bytes ≤ maxSize ⌝ }
+    ensures { λ r. ⌜ r ≡ pos bytes ⌝ }
+{
+    bytes as i64
+}

@@ -1,0 +1,229 @@
+// Opening a session: its tests, its record, and what it stores into the image and the table.
+ghost use mathlib.Core.Path.{_≡_};
+ghost use Prim.Native.Nat.{_+_, _≤_};
+ghost use lib.ListN.{length, replicate};
+ghost use Rattle.lists.specs.Below.{listBelow};
+ghost use Rattle.lists.specs.Splice.{splice};
+ghost use Rattle.format.specs.Limits.{maxTasks};
+ghost use Rattle.format.specs.Refusals.{firstFailing};
+ghost use Rattle.format.specs.Meta2.{unused};
+ghost use Rattle.format.specs.Record.{entry, listsOf, noLists};
+ghost use Rattle.format.specs.declared.session.Plan.{Plan};
+ghost use Rattle.format.specs.declared.session.Needed.{Needed};
+ghost use Rattle.format.specs.declared.session.Opened.{Opened};
+ghost use Rattle.format.specs.Session.{noSession};
+ghost use Rattle.format.specs.Open.{openingOf, shapeTests, numberTests, needsAnswer, openRefusal, openAnswer, openImage, openTable};
+use format::field;
+use format::head;
+use format::head::Head;
+use format::head::LISTS;
+use format::limit::MAX_TASKS;
+use format::refusal;
+use format::session::Needed;
+use format::session::Opened;
+use format::session::Plan;
+use format::session::Session;
+use rules::heads;
+use rules::limits;
+
+// A refusal beside a record of zeros marked closed.
+fn no_session(refusal: u32) -> Opened
+    ensures { λ r. ⌜ r ≡ record { session = noSession; lists = noLists; refusal = refusal } ⌝ }
+{
+    let head = heads::no_head();
+    let lists = [0; LISTS];
+    Opened {
+        session: Session {
+            head,
+            planned: 0,
+            closed: 1,
+        },
+        lists,
+        refusal,
+    }
+}
+
+// Tests 2, 5, 6 and 21.
+fn shape_refusal(order: u32, blocksize: u32, ranks: usize, sizes: usize, prefix: usize) -> u32
+    ensures { λ r. ⌜ r ≡ firstFailing (shapeTests order blocksize ranks sizes prefix) ⌝ }
+{
+    if 1 < order {
+        return refusal::NO_ORDER;
+    }
+    if !limits::blocksize_ok(blocksize) {
+        return refusal::BAD_BLOCKSIZE;
+    }
+    if ranks < 1 {
+        return refusal::BAD_TASKS;
+    }
+    if MAX_TASKS < ranks {
+        return refusal::BAD_TASKS;
+    }
+    if ranks != sizes {
+        return refusal::BAD_TASKS;
+    }
+    if field::PREFIX < prefix {
+        return refusal::LONG_PREFIX;
+    }
+    0
+}
+
+// Tests 8, 9 and 20.
+fn number_refusal(ranks: &[u64], sizes: &[u64], planned: u32) -> u32
+    requires { ⌜ length (now ranks) ≤ length (now sizes) ⌝ }
+    ensures { λ r. ⌜ r ≡ firstFailing (numberTests (now (ranks .entry)) (now (sizes .entry)) planned) ⌝ }
+{
+    let n = ranks.len();
+    if !limits::ranks_ok(ranks, n) {
+        return refusal::BAD_RANK;
+    }
+    if !limits::sizes_ok(sizes, n) {
+        return refusal::BAD_SIZE;
+    }
+    if !limits::planned_ok(planned) {
+        return refusal::BAD_PLANNED;
+    }
+    0
+}
+
+fn no_need(refusal: u32) -> Needed
+    ensures { λ r. ⌜ r ≡ record { refusal = refusal; image = 0; cells = 0 } ⌝ }
+{
+    Needed {
+        refusal,
+        image: 0,
+        cells: 0,
+    }
+}
+
+// The lengths that an opening requires of image and table, or the refusal of its plan: tests 2, 5, 6, 21, 8, 9 and 20, in this order.
+pub fn needs(plan: Plan, ranks: &[u64], sizes: &[u64], prefix: &[u8]) -> Needed
+    ensures { λ r. ⌜ r ≡ needsAnswer (openingOf plan (now (ranks .entry)) (now (sizes .entry)) (now (prefix .entry))) ⌝ }
+{
+    let shape = shape_refusal(
+        plan.order,
+        plan.blocksize,
+        ranks.len(),
+        sizes.len(),
+        prefix.len(),
+    );
+    if shape != 0 {
+        return no_need(shape);
+    }
+    let number = number_refusal(ranks, sizes, plan.planned);
+    if number != 0 {
+        return no_need(number);
+    }
+    let n = ranks.len() as u32;
+    let image = layout::meta2_end(sizes, n, plan.blocksize, plan.planned);
+    Needed {
+        refusal: 0,
+        image,
+        cells: n as u64 * plan.planned as u64,
+    }
+}
+
+// The plan's tests, then 18.
+fn open_refusal(
+    plan: Plan,
+    ranks: &[u64],
+    sizes: &[u64],
+    prefix: &[u8],
+    image: u64,
+    cells: u64,
+) -> u32
+    ensures { λ r. ⌜ r ≡ openRefusal (openingOf plan (now (ranks .entry)) (now (sizes .entry)) (now (prefix .entry))) image cells ⌝ }
+{
+    let needed = needs(plan, ranks, sizes, prefix);
+    if needed.refusal != 0 {
+        return needed.refusal;
+    }
+    if image < needed.image {
+        return refusal::TOO_SHORT;
+    }
+    if cells < needed.cells {
+        return refusal::TOO_SHORT;
+    }
+    0
+}
+
+// These numbers into the lists, from `at` on.
+fn put_stripe(lists: &mut [u64], at: usize, values: &[u64])
+    requires { ⌜ at + length (now values) ≤ length (now lists) ⌝ }
+    ensures { λ _. ⌜ now (lists .exit) ≡ splice (now (lists .entry)) at (listBelow (length (now (values .entry))) (entry (now (values .entry)))) ⌝ }
+{
+    let mut i = 0;
+    while i < values.len() {
+        lists[at + i] = values[i];
+        i += 1;
+    }
+}
+
+// The lists of a session that has begun no chunk.
+fn lists_of(ranks: &[u64], sizes: &[u64]) -> [u64; LISTS]
+    requires { ⌜ (length (now ranks) ≤ maxTasks) × (length (now sizes) ≡ length (now ranks)) ⌝ }
+    ensures { λ r. ⌜ r ≡ listsOf (length (now (ranks .entry))) (entry (now (ranks .entry))) (entry (now (sizes .entry))) (λ i. 0) ⌝ }
+{
+    let mut lists = [0; LISTS];
+    put_stripe(&mut lists, 0, ranks);
+    put_stripe(&mut lists, head::SIZES, sizes);
+    lists
+}
+
+// -1 into the first cells.
+fn mark_unused(table: &mut [i64], cells: usize)
+    requires { ⌜ cells ≤ length (now table) ⌝ }
+    ensures { λ _. ⌜ now (table .exit) ≡ splice (now (table .entry)) 0 (replicate cells unused) ⌝ }
+{
+    let mut j = 0;
+    while j < cells {
+        table[j] = -1;
+        j += 1;
+    }
+}
+
+// Opens a session of as many tasks as there are ranks: META1 and zeros up to D into the image, -1 into the first cells. Tests 2, 5, 6, 21, 8,
+// 9, 20 and 18, in this order.
+pub fn open(
+    plan: Plan,
+    ranks: &[u64],
+    sizes: &[u64],
+    prefix: &[u8],
+    image: &mut [u8],
+    table: &mut [i64],
+) -> Opened
+    ensures { λ r. ⌜ r ≡ openAnswer (openingOf plan (now (ranks .entry)) (now (sizes .entry)) (now (prefix .entry))) (now (image .entry)) (now (table .entry)) ⌝ }
+    ensures { λ _. ⌜ now (image .exit) ≡ openImage (openingOf plan (now (ranks .entry)) (now (sizes .entry)) (now (prefix .entry))) (now (image .entry)) (now (table .entry)) ⌝ }
+    ensures { λ _. ⌜ now (table .exit) ≡ openTable (openingOf plan (now (ranks .entry)) (now (sizes .entry)) (now (prefix .entry))) (now (image .entry)) (now (table .entry)) ⌝ }
+{
+    let refusal = open_refusal(
+        plan,
+        ranks,
+        sizes,
+        prefix,
+        image.len() as u64,
+        table.len() as u64,
+    );
+    if refusal != 0 {
+        return no_session(refusal);
+    }
+    let head = Head {
+        order: plan.order,
+        version: plan.version,
+        patch: plan.patch,
+        blocksize: plan.blocksize,
+        n: ranks.len() as u32,
+    };
+    let lists = lists_of(ranks, sizes);
+    emit::meta1(image, head, &lists, prefix);
+    mark_unused(table, ranks.len() * plan.planned as usize);
+    Opened {
+        session: Session {
+            head,
+            planned: plan.planned,
+            closed: 0,
+        },
+        lists,
+        refusal: 0,
+    }
+}

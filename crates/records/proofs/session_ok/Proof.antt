@@ -1,0 +1,81 @@
+-- Each return by the tests that led there.
+use mathlib.Core.Path.{_≡_, _∙_}
+use mathlib.Core.Bool.{true}
+use Prim.Native.Nat.{zero-le}
+use native.Mathlib.Omega.{arith}
+use borrow.Author.Needs.{needs}
+use borrow.Author.Tests.{le-leb}
+use Rattle.lists.proofs.Below.{all-cong, test-fails, test-holds}
+use Rattle.format.specs.Record.{countOf, headSound}
+use Rattle.format.proofs.Passing.{head-tasks}
+use Rattle.format.proofs.Stripes.{length-counts}
+use Rattle.format.specs.Session.{sessionSound}
+use Rattle.records.proofs.session_ok.Statement.{statement}
+use Rattle.records.proofs.session_ok.Tie as tie
+
+abbrev start : tie.After-head-ok → tie.Start
+start c = c .before .before
+
+-- what the head's rules give
+sound-head : (e : tie.Else1) → let a = start (e .before) .args in headSound (a .s .head) (a .lists .now) ≡ true
+sound-head e = test-holds (e .before .head-ok .ensures) (e .if1 .left)
+
+head-ok-requires : tie.Need-head-ok-requires
+head-ok-requires c κs = search needs
+
+returns : tie.Need-returns
+unfolding sessionSound
+returns c = rw (test-fails (c .before .head-ok .ensures) (c .if1 .taken))
+
+planned-ok-requires : tie.Need-planned-ok-requires
+planned-ok-requires c κs = search needs
+
+returns-2 : tie.Need-returns-2
+unfolding sessionSound
+returns-2 c = rw (sound-head (c .before .before), test-fails (c .before .planned-ok .ensures) (c .if2 .taken))
+
+sub-counts : tie.Need-sub-counts
+sub-counts c = search needs
+
+part-counts-start : tie.Need-part-counts-start
+part-counts-start c = search needs
+
+part-counts-end : tie.Need-part-counts-end
+part-counts-end c = omega (arith, start (c .before .before .before) .pre)
+
+cast-all-within : tie.Need-cast-all-within
+cast-all-within c = search needs
+
+cast-all-within-2 : tie.Need-cast-all-within-2
+cast-all-within-2 c = search needs
+
+all-within-requires : tie.Need-all-within-requires
+all-within-requires c κs =
+    let h = c .before .before .before .before .before in
+    let s = start (h .before) in
+    omega (arith, head-tasks _ _ (sound-head h), length-counts (s .args .lists .now) (s .pre))
+
+returns-3 : tie.Need-returns-3
+unfolding sessionSound
+returns-3 c =
+    let e = c .before .before .before .before in
+    let h = e .before .before in
+    let a = start (h .before) .args in
+    rw (sound-head h, test-holds (e .before .planned-ok .ensures) (e .if2 .left))
+    (c .all-within .ensures ∙ all-cong _ _ _ (λ i l. rw (le-leb 0 (countOf (a .lists .now) i) zero-le)))
+
+pub session-ok-spec : {M : Type 1} → statement M
+session-ok-spec =
+    tie.close
+    (tie.spec
+    head-ok-requires
+    returns
+    planned-ok-requires
+    returns-2
+    sub-counts
+    part-counts-start
+    part-counts-end
+    cast-all-within
+    cast-all-within-2
+    all-within-requires
+    returns-3)

@@ -1,9 +1,0 @@
-pub mod Fates
-pub mod Share
-pub mod Places
-pub mod Follows
-pub mod Effects
-pub mod Steps
-pub mod Middle
-pub mod Opened
-pub mod Streams

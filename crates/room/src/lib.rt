@@ -1,1 +1,0 @@
-// No code: the tally of document 01, and the theory of the room that each task can count on.

@@ -1,0 +1,110 @@
+// The rule for each number of document 01, "Numbers that bound the work"; a list is judged over its first n entries.
+ghost use mathlib.Core.Path.{_≡_};
+ghost use mathlib.Core.Bool.{not, _&&_};
+ghost use Prim.Native.Nat.{_<_, _≤_};
+ghost use lib.Dec.{eqb};
+ghost use lib.IntN.{pos};
+ghost use lib.ListN.{length, getD};
+ghost use Rattle.lists.specs.Below.{allBelow};
+ghost use Rattle.endian.specs.Signed.{within, sameZ};
+ghost use Rattle.format.specs.Limits.{tasksRule, blocksizeRule, plannedRule, maxchunksRule, allDifferent, ranksRule, sizesRule};
+use format::limit;
+
+pub fn blocksize_ok(blocksize: u32) -> bool
+    ensures { λ r. ⌜ r ≡ blocksizeRule (pos blocksize) ⌝ }
+{
+    if blocksize < limit::MIN_BLOCKSIZE {
+        return false;
+    }
+    if limit::MAX_BLOCKSIZE < blocksize {
+        return false;
+    }
+    u32::count_ones(blocksize) == 1
+}
+
+pub fn tasks_ok(n: u32) -> bool
+    ensures { λ r. ⌜ r ≡ tasksRule (pos n) ⌝ }
+{
+    1 <= n && n as usize <= limit::MAX_TASKS
+}
+
+pub fn planned_ok(planned: u32) -> bool
+    ensures { λ r. ⌜ r ≡ plannedRule (pos planned) ⌝ }
+{
+    1 <= planned && planned <= limit::MAX_BLOCKS
+}
+
+pub fn maxchunks_ok(maxchunks: u32) -> bool
+    ensures { λ r. ⌜ r ≡ maxchunksRule (pos maxchunks) ⌝ }
+{
+    maxchunks <= limit::MAX_BLOCKS
+}
+
+pub fn all_within(values: &[u64], n: usize, lo: u64, hi: u64) -> bool
+    requires { ⌜ n ≤ length (now values) ⌝ }
+    ensures { λ r. ⌜ r ≡ allBelow n (λ i. within lo hi (pos (getD (now (values .entry)) i 0))) ⌝ }
+{
+    let mut i = 0;
+    while i < n {
+        if values[i] < lo {
+            return false;
+        }
+        if hi < values[i] {
+            return false;
+        }
+        i += 1;
+    }
+    true
+}
+
+fn and_differ(before: bool, x: u64, y: u64) -> bool
+    ensures { λ r. ⌜ r ≡ (before && not (eqb x y)) ⌝ }
+{
+    before & (x != y)
+}
+
+// Whether number i differs from each before it. It looks at all of them, which a machine does faster than to stop at the first.
+fn is_new(values: &[u64], i: usize) -> bool
+    requires { ⌜ i < length (now values) ⌝ }
+    ensures { λ r. ⌜ r ≡ allBelow i (λ j. not (sameZ (pos (getD (now (values .entry)) j 0)) (pos (getD (now (values .entry)) i 0)))) ⌝ }
+{
+    let value = values[i];
+    let mut new = true;
+    let mut j = 0;
+    while j < i {
+        new = and_differ(new, values[j], value);
+        j += 1;
+    }
+    new
+}
+
+fn all_different(values: &[u64], n: usize) -> bool
+    requires { ⌜ n ≤ length (now values) ⌝ }
+    ensures { λ r. ⌜ r ≡ allDifferent n (λ i. pos (getD (now (values .entry)) i 0)) ⌝ }
+{
+    let mut i = 0;
+    while i < n {
+        if !is_new(values, i) {
+            return false;
+        }
+        i += 1;
+    }
+    true
+}
+
+pub fn ranks_ok(ranks: &[u64], n: usize) -> bool
+    requires { ⌜ n ≤ length (now ranks) ⌝ }
+    ensures { λ r. ⌜ r ≡ ranksRule n (λ i. pos (getD (now (ranks .entry)) i 0)) ⌝ }
+{
+    if !all_within(ranks, n, 0, limit::MAX_RANK) {
+        return false;
+    }
+    all_different(ranks, n)
+}
+
+pub fn sizes_ok(sizes: &[u64], n: usize) -> bool
+    requires { ⌜ n ≤ length (now sizes) ⌝ }
+    ensures { λ r. ⌜ r ≡ sizesRule n (λ i. pos (getD (now (sizes .entry)) i 0)) ⌝ }
+{
+    all_within(sizes, n, 1, limit::MAX_SIZE)
+}

@@ -1,4 +1,0 @@
-pub mod Records
-pub mod Open
-pub mod Write
-pub mod Close

@@ -1,0 +1,9 @@
+pub mod Share
+pub mod Cases
+pub mod Simulating
+pub mod Effects
+pub mod Steps
+pub mod Places
+pub mod Streams
+pub mod Opened
+pub mod Middle

@@ -1,0 +1,204 @@
+-- A session that follows a book of the tally passes its tests, and each write and each list of writes does to it what the tally does, by the
+-- tally's six cases.
+use mathlib.Core.Path.{_≡_, refl, sym, ap, ap₂, _∙_, subst}
+use mathlib.Core.Bool.{Bool, true, false, _&&_}
+use mathlib.Core.List.{List, [], _∷_}
+use Prim.Native.Nat.{ℕ, _+_, _-_, _≤_, _<_}
+use native.Mathlib.Nat.{add-zero}
+use native.Mathlib.Omega.{arith}
+use lib.Dec.{ltb, leb, eqb}
+use lib.IntN.{ℤ, pos}
+use lib.ListN.{length}
+use borrow.Author.Tests.{eqb-true, eqb-false, lt-ltb, le-ltb, le-leb, lt-leb, ltb-true}
+use Rattle.endian.specs.Signed.{natural}
+use Rattle.endian.proofs.Signed.{within-facts, within-holds}
+use Rattle.format.specs.Refusals.{firstFailing}
+use Rattle.format.specs.Record.{sizeOf, cellsAgree, isTask}
+use Rattle.format.proofs.Rules.{values-hold}
+use Rattle.format.specs.declared.session.Session.{Session}
+use Rattle.format.specs.Session.{State, sessionTests}
+use Rattle.format.specs.Write.{Request, Spot, begun, inLast, capacityOf, spot, target, writeRefusal, stored}
+use Rattle.format.proofs.Sessions.{session-passes}
+use Rattle.format.proofs.Answers.{answer-no-task, answer-empty, answer-long, answer-chunk}
+use Rattle.format.proofs.Outcomes.{refused-keeps, empty-keeps}
+use Rattle.format.specs.Tally.{Tallies, outcomeIn, answerTo, afterwards, feed, fedOf, Outcome, refused, empty, stays, moves}
+use Rattle.tally.proofs.Cases.{View, is-refused, is-empty, is-stays, is-moves, no-task, too-long, no-room, view, feed-same}
+use Rattle.tally.proofs.Places.{imageAfter}
+use Rattle.tally.specs.Simulates.{termsIn, CellIs, Simulates, termsAt, Own}
+use Rattle.tally.proofs.Simulating.{used-fits, StepSimulates, RunSimulates, CellsKept}
+use Rattle.tally.proofs.Effects.{StepHolds, step-unchanged, store}
+
+module _ {b : Tallies} {st : State} (f : Own b st) where
+  own-passes : firstFailing (sessionTests st) ≡ 0
+  unfolding cellsAgree
+  own-passes =
+      session-passes st (f .not-closed) (f .some) (record {
+        head = f .sound;
+        few = f .few;
+        counts = λ i l. omega (arith, f .counts-are i l, f .reachable (i + 1) .1 .most);
+        image-long = f .image-long;
+        table-long = f .table-long;
+        agree =
+            values-hold _ _ _ _ _
+            (λ i k l m u. used-fits f i k l (omega (arith, f .counts-are i l)))
+            (λ i k l u m. f .cells-are i k l m .none (omega (arith, f .counts-are i l)));
+      })
+
+  -- ---- one write
+
+  module _ (q : Request) where
+    last-room : b (q .task) .w ≤ capacityOf st q
+    unfolding capacityOf
+    last-room = f .reachable (q .task) .1 .last
+
+    -- of a task that there is, the count and the last cell are u and w
+    module _ (low : 1 ≤ q .task) (top : q .task ≤ st .session .head .n) where
+      back : q .task - 1 + 1 ≡ q .task
+      back = omega arith
+
+      begun-is : begun st q ≡ b (q .task) .u
+      unfolding begun
+      begun-is = rw back at (f .counts-are (q .task - 1) (omega arith))
+
+      last-is : 0 < b (q .task) .u → inLast st q ≡ b (q .task) .w
+      unfolding inLast
+      last-is k =
+          let e = begun-is in
+          let c = f .cells-are (q .task - 1) (begun st q - 1) (omega arith) (omega (arith, f .reachable (q .task) .1 .most)) in
+          ap natural ((rw back at c) .last (omega arith))
+
+      spot-stays : 0 < b (q .task) .u → b (q .task) .w + length (q .bytes) ≤ capacityOf st q
+          → spot st q ≡ record { chunk = b (q .task) .u; from = b (q .task) .w }
+      unfolding spot
+      spot-stays k fits =
+          rw (begun-is, last-is k, lt-ltb 0 (b (q .task) .u) k, le-leb (length (q .bytes)) (capacityOf st q - b (q .task) .w) (omega arith))
+
+      over : (0 < b (q .task) .u → capacityOf st q < b (q .task) .w + length (q .bytes))
+          → (ltb 0 (b (q .task) .u) && leb (length (q .bytes)) (capacityOf st q - inLast st q)) ≡ false
+      over more = go (ltb 0 (b (q .task) .u)) refl
+        where
+          go : (v : Bool) → ltb 0 (b (q .task) .u) ≡ v → (v && leb (length (q .bytes)) (capacityOf st q - inLast st q)) ≡ false
+          go true e =
+              let k = ltb-true 0 (b (q .task) .u) e in
+              lt-leb (length (q .bytes)) (capacityOf st q - inLast st q) (omega (arith, last-is k, more k, last-room))
+          go false e = refl
+
+      spot-moves : (0 < b (q .task) .u → capacityOf st q < b (q .task) .w + length (q .bytes))
+          → spot st q ≡ record { chunk = b (q .task) .u + 1; from = 0 }
+      unfolding spot
+      spot-moves more = rw (begun-is, over more)
+
+      is-task : isTask (st .session .head .n) (q .task) ≡ true
+      is-task = within-holds 1 (st .session .head .n) (q .task) low top
+
+      -- a request that has bytes and is not too long
+      module _ (some : 0 < length (q .bytes)) (short : length (q .bytes) ≤ capacityOf st q) where
+        no-chunk : st .session .planned < spot st q .chunk → writeRefusal st q ≡ 16
+        no-chunk l = answer-chunk st q own-passes is-task some short ∙ rw (lt-ltb (st .session .planned) (spot st q .chunk) l)
+
+        chunk-there : spot st q .chunk ≤ st .session .planned → writeRefusal st q ≡ 0
+        chunk-there l = answer-chunk st q own-passes is-task some short ∙ rw (le-ltb (st .session .planned) (spot st q .chunk) l)
+
+    task-refused : (1 ≤ q .task → q .task ≤ st .session .head .n → ⊥) → writeRefusal st q ≡ 14
+    task-refused out = go (isTask (st .session .head .n) (q .task)) refl
+      where
+        go : (v : Bool) → isTask (st .session .head .n) (q .task) ≡ v → writeRefusal st q ≡ 14
+        go true e = let range = within-facts 1 (st .session .head .n) (q .task) e in absurd (out (range .0) (range .1))
+        go false e = answer-no-task st q own-passes e
+
+    -- what was the last chunk's cell is a used chunk's cell after the next chunk has begun
+    used-before : (k : ℕ) (z : ℤ) → CellIs (capacityOf st q) (b (q .task)) k z
+        → k + 1 < b (q .task) .u + 1 → (v : Bool) → eqb (k + 1) (b (q .task) .u) ≡ v → (v : ℕ) × (z ≡ pos v) × (v ≤ capacityOf st q)
+    used-before k z c l true e = (b (q .task) .w, c .last (eqb-true _ _ e), last-room)
+    used-before k z c l false e = c .used (omega (arith, eqb-false))
+
+    own-step : StepHolds b st q
+    unfolding capacityOf stored target
+    own-step = go refl (view (termsAt st) (fedOf q) (b (q .task)))
+      where
+        now : (z : Outcome) → outcomeIn (termsAt st) b (fedOf q) ≡ z
+            → feed (termsAt st) b (fedOf q) (q .task) ≡ afterwards z (length (q .bytes)) (b (q .task))
+        now z e =
+            feed-same (termsAt st) b (fedOf q) (q .task) refl ∙ ap (λ (z : Outcome). afterwards z (length (q .bytes)) (b (q .task))) e
+
+        stays-so : {number : ℕ} → outcomeIn (termsAt st) b (fedOf q) ≡ refused number → 0 < number → writeRefusal st q ≡ number
+            → StepHolds b st q
+        stays-so e some number =
+            step-unchanged f q (number ∙ sym (ap answerTo e)) (rw e) (now (refused _) e) (refused-keeps st q (rw number some))
+
+        go : {z : Outcome} → outcomeIn (termsAt st) b (fedOf q) ≡ z → View (termsAt st) (fedOf q) (b (q .task)) z → StepHolds b st q
+        go e (is-refused (no-task out)) = stays-so e (omega arith) (task-refused out)
+        go e (is-refused (too-long l h some long)) = stays-so e (omega arith) (answer-long st q own-passes (is-task l h) long)
+        go e (is-refused (no-room l h some fits k more)) =
+            let c : spot st q .chunk ≡ b (q .task) .u + 1 = ap (λ (x : Spot). x .chunk) (spot-moves l h more) in
+            stays-so e (omega arith) (no-chunk l h some fits (omega arith))
+        go e (is-empty l h none) =
+            step-unchanged f q (answer-empty st q own-passes (is-task l h) none ∙ sym (ap answerTo e)) (rw e) (now empty e) (empty-keeps st q none)
+        go e (is-stays l h some k fits) =
+            let at = spot-stays l h k fits in
+            let c : spot st q .chunk ≡ b (q .task) .u = ap (λ (x : Spot). x .chunk) at in
+            let d : spot st q .from ≡ b (q .task) .w = ap (λ (x : Spot). x .from) at in
+            let most : b (q .task) .u ≤ st .session .planned = f .reachable (q .task) .1 .most in
+            store f q (record { u = b (q .task) .u; w = b (q .task) .w + length (q .bytes) }) l h (now stays e) k most c (omega arith)
+            (λ j z n x. record { used = x .used; last = λ y. absurd (n y); none = x .none })
+            (chunk-there l h some (omega arith) (omega arith)) (ap answerTo e) some (rw (e, c, d))
+        go e (is-moves l h some fits k more) =
+            let at = spot-moves l h more in
+            let c : spot st q .chunk ≡ b (q .task) .u + 1 = ap (λ (x : Spot). x .chunk) at in
+            let d : spot st q .from ≡ 0 = ap (λ (x : Spot). x .from) at in
+            store f q (record { u = b (q .task) .u + 1; w = length (q .bytes) }) l h (now moves e) (omega arith) (omega arith) c (omega arith)
+            (λ j z n x.
+            record {
+              used = λ y. used-before j z x y (eqb (j + 1) (b (q .task) .u)) refl;
+              last = λ y. absurd (n y);
+              none = λ y. x .none (omega arith);
+            })
+            (chunk-there l h some fits (omega arith)) (ap answerTo e) some (rw (e, c, d, add-zero))
+
+-- ---- for any numbers and sizes that are the state's
+
+-- what is said of its own numbers and sizes is said of those given
+own-as : (st : State) {s : Session} {size : ℕ → ℕ} (P : Session → (ℕ → ℕ) → Type 0) → st .session ≡ s → sizeOf (st .lists) ≡ size
+    → P (st .session) (sizeOf (st .lists)) → P s size
+own-as st {size = size} P e d x = subst (λ (s : Session). P s size) e (subst (λ (f : ℕ → ℕ). P (st .session) f) d x)
+
+as-own : (st : State) {s : Session} {size : ℕ → ℕ} (P : Session → (ℕ → ℕ) → Type 0) → st .session ≡ s → sizeOf (st .lists) ≡ size
+    → P s size → P (st .session) (sizeOf (st .lists))
+as-own st {size = size} P e d x =
+    subst (λ (f : ℕ → ℕ). P (st .session) f) (sym d) (subst (λ (s : Session). P s size) (sym e) x)
+
+module _ {s : Session} {size : ℕ → ℕ} where
+  module _ {b : Tallies} {st : State} (f : Simulates s size b st) where
+    own : Own b st
+    own = as-own st (λ s size. Simulates s size b st) (f .session-is) (f .sizes-are) f
+
+    -- what keeps a session alive
+    pub passes : firstFailing (sessionTests st) ≡ 0
+    passes = own-passes own
+
+    pub step-simulates : (q : Request) → StepSimulates s size b st q
+    step-simulates q = own-as st (λ s size. StepSimulates s size b st q) (f .session-is) (f .sizes-are) (own-step own q .0)
+
+    pub cells-kept : (q : Request) → CellsKept s size b st q
+    cells-kept q = own-as st (λ s size. CellsKept s size b st q) (f .session-is) (f .sizes-are) (own-step own q .1)
+
+  pub run-simulates : {b : Tallies} {st : State} → Simulates s size b st → (qs : List Request) → RunSimulates s size b st qs
+  run-simulates f [] = record {
+    numbers-are = refl;
+    image-is = refl;
+    follows = f;
+    table-as-long = refl;
+    other-cells = λ j l. refl;
+    other-entries = λ j l. refl;
+  }
+  run-simulates {b} f (q ∷ qs) =
+      let t = step-simulates f q in
+      let r = run-simulates (t .follows) qs in
+      record {
+        numbers-are = ap₂ _∷_ (t .number-is) (r .numbers-are);
+        image-is = r .image-is ∙ ap (λ (m : List ℕ). imageAfter (termsIn s size) (feed (termsIn s size) b (fedOf q)) m qs) (t .image-is);
+        follows = r .follows;
+        table-as-long = r .table-as-long ∙ t .table-as-long;
+        other-cells = λ j l. r .other-cells j l ∙ t .other-cells j l;
+        other-entries = λ j l. r .other-entries j l ∙ t .other-entries j l;
+      }
