@@ -28,7 +28,7 @@ use Rattle.format.specs.Load.{loadRefusal, loadAnswer, loadTable}
 use Rattle.format.specs.Reads.{Container, containerOf, loadedTests, readTests, chunksUsed, writtenIn, chunkBytes, chunkRefusal, chunkPart, streamOf, totalOf, totalAnswer, readRefusal, readAnswer, readOutput, loadedFrom}
 use Rattle.container.specs.Format.{bytesSaid, streamSaid, totalSaid, ReadsBack, RefusesBack}
 use Rattle.format.proofs.InBounds.{block-kept, tasks-kept, ranks-kept, sizes-kept}
-use Rattle.format.proofs.Every.{headSaid, listsSaid, few, maxchunks-kept, counts-kept, values-kept, loaded-is, lists-are, room, says}
+use Rattle.format.proofs.Every.{headSaid, listsSaid, few, maxchunks-kept, counts-kept, values-kept, loaded-is, lists-are, table-long, says}
 use Rattle.container.proofs.Refusing.{total-number, read-number}
 use Rattle.format.proofs.Passing.{record-passes}
 use Rattle.format.proofs.LoadedRecords.{loaded-numbered}
@@ -175,7 +175,7 @@ module _ (image : List ℕ) (s : Contents) (one : HasMeta1 image s) (two : HasMe
   said = says image s one two table e
 
   wide-enough : s .n * s .maxchunks ≤ length (loadTable image table)
-  wide-enough = rw (said .as-long) (room image s one two table e)
+  wide-enough = rw (said .as-long) (table-long image s one two table e)
 
   pub reads-back : ReadsBack image s (loadedFrom image table)
   reads-back =

@@ -174,9 +174,9 @@ module _ (image : List ℕ) (s : Contents) (one : HasMeta1 image s) (two : HasMe
   }
 
   pub every : (cells : ℕ) → s .n * s .maxchunks ≤ cells → loadRefusal image cells ≡ 0
-  every cells room = load-passes image cells (record {
+  every cells table-long = load-passes image cells (record {
     first = first-holds;
-    room = rw (tasks-is, maxchunks-is) room;
+    table-long = rw (tasks-is, maxchunks-is) table-long;
     second = rw (head-is, maxchunks-is, part-is) second-holds;
   })
 
@@ -208,11 +208,11 @@ module _ (image : List ℕ) (s : Contents) (one : HasMeta1 image s) (two : HasMe
     unfolding loadTable
     table-is = when-accepted _ _ _ accepted ∙ ap (splice table 0) (rw (head-is, maxchunks-is, part-is) values-said)
 
-    pub room : s .n * s .maxchunks ≤ length table
-    room = rw (tasks-is, maxchunks-is) at (load-holds image (length table) accepted .room)
+    pub table-long : s .n * s .maxchunks ≤ length table
+    table-long = rw (tasks-is, maxchunks-is) at (load-holds image (length table) accepted .table-long)
 
     fits : 0 + length values ≤ length table
-    fits = rw (zero-add, length-list) room
+    fits = rw (zero-add, length-list) table-long
 
     cell-is : (i k : ℕ) → i < s .n → k < s .maxchunks
         → cell (loadTable image table) (Meta2.valueIndex (s .n) k i) ≡ valueOf image s k i

@@ -1,5 +1,4 @@
 pub mod Numbers
-pub mod Lines
 pub mod Rounding
 pub mod Power
 pub mod Bounds

@@ -13,17 +13,17 @@ use Rattle.format.specs.Load.{meta2Bytes, loadRefusal}
 
 pub record Loads (image : List ℕ) (cells : ℕ) : Type 0 where
   pub first : Meta1Holds image (length image)
-  pub room : tasksIn image * maxchunksIn image ≤ cells
+  pub table-long : tasksIn image * maxchunksIn image ≤ cells
   pub second : Meta2Holds (headIn image) (sizeIn image) (maxchunksIn image) (meta2Bytes image)
 
 pub load-holds : (image : List ℕ) (cells : ℕ) → loadRefusal image cells ≡ 0 → Loads image cells
 unfolding loadRefusal
 load-holds image cells e =
     let (one, rest) = both-pass (meta1Tests image (length image)) _ (meta1-numbered image (length image)) e in
-    let (room, two) = next-passes _ _ (omega arith) rest in
+    let (table-long, two) = next-passes _ _ (omega arith) rest in
     record {
       first = meta1-holds image (length image) one;
-      room = ltb-false _ _ room;
+      table-long = ltb-false _ _ table-long;
       second = meta2-holds _ _ _ _ two;
     }
 
@@ -31,4 +31,4 @@ pub load-passes : (image : List ℕ) (cells : ℕ) → Loads image cells → loa
 unfolding loadRefusal firstFailing
 load-passes image cells h =
     first-passes (meta1Tests image (length image)) _ (meta1-numbered image (length image)) (meta1-passes image (length image) (h .first))
-    ∙ rw (le-ltb _ _ (h .room)) (meta2-passes _ _ _ _ (h .second))
+    ∙ rw (le-ltb _ _ (h .table-long)) (meta2-passes _ _ _ _ (h .second))

@@ -1,4 +1,4 @@
--- The paper's numbers are those that the rules compute.
+-- The paper's numbers, orders, bytes and lines are those that the rules compute.
 use mathlib.Core.Path.{_≡_, refl}
 use mathlib.Core.Bool.{true}
 use Prim.Native.Nat.{_<_}
@@ -27,8 +27,10 @@ use Rattle.format.specs.Tally.{Terms, Fed, Tally, outcome, answerTo, fee
 use Rattle.format.specs.Numbers.{Agrees, pTable, otherTable}
 use Rattle.format.specs.Orders.{orderTable}
 use Rattle.format.specs.Bytes.{byteTable}
+use Rattle.format.specs.Line.{totalsOf, loaded, rest, containerLine, lineOf}
+use Rattle.format.specs.Lines.{lineTable}
 
-all-tables : Agrees pTable × Agrees otherTable × Agrees orderTable × Agrees byteTable
+all-tables : Agrees pTable × Agrees otherTable × Agrees orderTable × Agrees byteTable × Agrees lineTable
 unfolding allBelow anyBelow sumBelow greatestBelow joinBelow flatten splice tasksRule powerOfTwo blocksizeRule sizesRule plannedRule
     maxchunksRule allDifferent ranksRule meta1End roundUp dataStart extended capacity extendedBefore globalskip chunkStart
     meta2Start meta2Length meta2End firstFailing lastFields meta1Front meta1 openingBytes valueRule valuesRule countsRule meta2 filled listsOf headSound
@@ -36,12 +38,13 @@ unfolding allBelow anyBelow sumBelow greatestBelow joinBelow flatten splice task
     openAnswer openImage openTable sessionTests begun inLast capacityOf spot target requestTests stored maxchunksOf finished
     closedImage writeRefusal afterWrite closeRefusal closeAnswer closeImage magicIn bigIn orderedIn tasksIn maxchunksIn headIn rankIn sizeIn meta2In
     startTests fieldTests fixedTests listTests lastTests restTests meta1Tests countIn valuesIn meta2Tests meta2Bytes loadedIn listsIn loadRefusal checkAnswer loadAnswer loadTable loadedTests readTests chunksUsed writtenIn chunkBytes
-    chunkRefusal chunkPart chunkPlace partAnswer streamOf totalOf totalAnswer readRefusal readAnswer readOutput outcome feed pTable otherTable orderTable byteTable
+    chunkRefusal chunkPart chunkPlace partAnswer streamOf totalOf totalAnswer readRefusal readAnswer readOutput outcome feed pTable otherTable orderTable byteTable totalsOf loaded rest containerLine lineOf lineTable
 all-tables = (
   (refl, (refl, (refl, (refl, (refl, (refl, (refl, (refl, (refl, (refl, (refl, (refl, (refl, tt))))))))))))),
   (refl, (refl, (refl, (refl, (refl, (refl, (refl, (refl, (refl, (refl, (refl, (refl, (refl, (refl, (refl, (refl, tt)))))))))))))))),
   (refl, (refl, (refl, (refl, (refl, (refl, (refl, (refl, (refl, (refl, (refl, (refl, tt)))))))))))),
   (refl, (refl, (refl, (refl, (refl, (refl, (refl, tt))))))),
+  (refl, (refl, (refl, (refl, (refl, tt))))),
 )
 
 -- P1 to P13, and the numbers without a P
@@ -57,6 +60,10 @@ order-table = all-tables .2
 
 pub byte-table : Agrees byteTable
 byte-table = all-tables .3
+
+-- the program's lines
+pub line-table : Agrees lineTable
+line-table = all-tables .4
 
 -- P13, "refused with 15 at any moment": whatever a session holds, once it passes 17, 18 and 19, and whatever the tally keeps
 pub too-long : (st : State) (q : Request) → firstFailing (sessionTests st) ≡ 0 → isTask (st .session .head .n) (q .task) ≡ true

@@ -130,4 +130,4 @@ module _ (image : List ℕ) (first : Meta1Holds image (length image)) where
 pub only : (image : List ℕ) (cells : ℕ) → loadRefusal image cells ≡ 0 → (c : IsContainer image) × (c .says .n * c .says .maxchunks ≤ cells)
 only image cells e =
     let h = load-holds image cells e in
-    (record { says = contentsIn image; first = has-meta1 image (h .first); second = has-meta2 image (h .first) (h .second) }, h .room)
+    (record { says = contentsIn image; first = has-meta1 image (h .first); second = has-meta2 image (h .first) (h .second) }, h .table-long)

@@ -281,7 +281,7 @@ module _ (image : List ℕ) (table : List ℤ) {answer : LoadAnswer} (checked : 
           image-long =
               rw (endAt-agree (headIn image) (sizeOf (listsIn image)) (sizeIn image) (size-is image passes count) (maxchunksIn image))
               (first image passes .fits);
-          table-long = load-holds image (length table) (refusal-is ∙ none) .room;
+          table-long = load-holds image (length table) (refusal-is ∙ none) .table-long;
         })
 
     pub table-filled : {filled : List ℤ}

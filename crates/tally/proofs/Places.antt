@@ -180,23 +180,23 @@ module _ (B M : ℕ) (p : Terms) (lo : Layout B M p) where
   -- an accepted write that has bytes fits in the image
   pub fits-of : {b : Tallies} {q : Request} (image : List ℕ) → M ≤ length image → Spot p b q
       → offsetIn p b q + length (q .bytes) ≤ length image
-  fits-of {q = q} image room z = omega (arith, lo .inside (q .task) (z .k) (z .low) (z .top) (z .one) (z .all))
+  fits-of {q = q} image long z = omega (arith, lo .inside (q .task) (z .k) (z .low) (z .top) (z .one) (z .all))
 
-  module _ (b : Tallies) (q : Request) (image : List ℕ) (room : M ≤ length image) (s : AllReachable p b) where
+  module _ (b : Tallies) (q : Request) (image : List ℕ) (long : M ≤ length image) (s : AllReachable p b) where
     length-stored : length (storedIn p b image q) ≡ length image
     length-stored =
         stored-ways p b q s (λ m. length m ≡ length image) image refl
-        λ z. length-splice image (offsetIn p b q) (q .bytes) (fits-of image room z)
+        λ z. length-splice image (offsetIn p b q) (q .bytes) (fits-of image long z)
 
-    room-stored : M ≤ length (storedIn p b image q)
-    room-stored = rw length-stored room
+    long-stored : M ≤ length (storedIn p b image q)
+    long-stored = rw length-stored long
 
     -- a byte that has been written is not written again
     pub kept : {t k i : ℕ} → InChunk p t k i → Taken (b t) k i
         → getD (storedIn p b image q) (p .start t k + i) 0 ≡ getD image (p .start t k + i) 0
     kept {t} {k} {i} f h =
         stored-ways p b q s (λ m. getD m (p .start t k + i) 0 ≡ getD image (p .start t k + i) 0) image refl
-        λ z. splice-other image (offsetIn p b q) (q .bytes) (p .start t k + i) 0 (fits-of image room z) (clash z)
+        λ z. splice-other image (offsetIn p b q) (q .bytes) (p .start t k + i) 0 (fits-of image long z) (clash z)
       where
         clash : Spot p b q → (j : ℕ) → j < length (q .bytes) → p .start t k + i ≡ offsetIn p b q + j → ⊥
         clash z j l e =
@@ -214,48 +214,48 @@ module _ (B M : ℕ) (p : Terms) (lo : Layout B M p) where
         → getD (storedIn p b image q) x 0 ≡ getD image x 0
     other x none =
         stored-ways p b q s (λ m. getD m x 0 ≡ getD image x 0) image refl
-        λ z. splice-other image (offsetIn p b q) (q .bytes) x 0 (fits-of image room z) (none (z .accepted))
+        λ z. splice-other image (offsetIn p b q) (q .bytes) x 0 (fits-of image long z) (none (z .accepted))
 
     -- byte j of those put stands at its place
     put-at : Spot p b q → (j : ℕ) → j < length (q .bytes) → getD (storedIn p b image q) (offsetIn p b q + j) 0 ≡ getD (q .bytes) j 0
-    put-at z j l = rw (z .lays image) (getD-splice-in image (offsetIn p b q) (q .bytes) (fits-of image room z) j 0 l)
+    put-at z j l = rw (z .lays image) (getD-splice-in image (offsetIn p b q) (q .bytes) (fits-of image long z) j 0 l)
 
   -- ---- a list of requests
 
   pub length-after : (qs : List Request) (b : Tallies) (m : List ℕ) → M ≤ length m → AllReachable p b → length (imageAfter p b m qs) ≡ length m
-  length-after [] b m room s = refl
-  length-after (q ∷ qs) b m room s =
-      length-after qs (feed p b (fedOf q)) (storedIn p b m q) (room-stored b q m room s) (reachable-feed p b (fedOf q) s)
-      ∙ length-stored b q m room s
+  length-after [] b m long s = refl
+  length-after (q ∷ qs) b m long s =
+      length-after qs (feed p b (fedOf q)) (storedIn p b m q) (long-stored b q m long s) (reachable-feed p b (fedOf q) s)
+      ∙ length-stored b q m long s
 
   kept-after : (qs : List Request) (b : Tallies) (m : List ℕ) {t k i : ℕ} → M ≤ length m → AllReachable p b → InChunk p t k i → Taken (b t) k i
       → getD (imageAfter p b m qs) (p .start t k + i) 0 ≡ getD m (p .start t k + i) 0
-  kept-after [] b m room s f h = refl
-  kept-after (q ∷ qs) b m room s f h =
-      kept-after qs (feed p b (fedOf q)) (storedIn p b m q) (room-stored b q m room s) (reachable-feed p b (fedOf q) s) f
+  kept-after [] b m long s f h = refl
+  kept-after (q ∷ qs) b m long s f h =
+      kept-after qs (feed p b (fedOf q)) (storedIn p b m q) (long-stored b q m long s) (reachable-feed p b (fedOf q) s) f
       (taken-feed p b (fedOf q) h)
-      ∙ kept b q m room s f h
+      ∙ kept b q m long s f h
 
   -- each accepted byte stands in the end where the tally puts it
   pub placed : {t x v : ℕ} {b : Tallies} {qs : List Request} (m : List ℕ) → M ≤ length m → AllReachable p b → PlacedAt p t x v b qs
       → getD (imageAfter p b m qs) x 0 ≡ v
-  placed m room s (here {book = b} {q = q} {qs = qs} e r j l y v) =
+  placed m long s (here {book = b} {q = q} {qs = qs} e r j l y v) =
       let z = spot-of p b q s r (omega arith) in
       let after =
-      kept-after qs (feed p b (fedOf q)) (storedIn p b m q) (room-stored b q m room s) (reachable-feed p b (fedOf q) s) (spot-in z j l)
+      kept-after qs (feed p b (fedOf q)) (storedIn p b m q) (long-stored b q m long s) (reachable-feed p b (fedOf q) s) (spot-in z j l)
       (spot-taken z j l) in
-      rw (y, v) (rw (spot-at z j) after ∙ put-at b q m room s z j l)
-  placed m room s (later {book = b} {q = q} h) =
-      placed (storedIn p b m q) (room-stored b q m room s) (reachable-feed p b (fedOf q) s) h
+      rw (y, v) (rw (spot-at z j) after ∙ put-at b q m long s z j l)
+  placed m long s (later {book = b} {q = q} h) =
+      placed (storedIn p b m q) (long-stored b q m long s) (reachable-feed p b (fedOf q) s) h
 
   -- every other byte of the image is as it was
   pub others : (qs : List Request) (b : Tallies) (m : List ℕ) (x : ℕ) → M ≤ length m → AllReachable p b → ((t v : ℕ) → PlacedAt p t x v b qs → ⊥)
       → getD (imageAfter p b m qs) x 0 ≡ getD m x 0
-  others [] b m x room s none = refl
-  others (q ∷ qs) b m x room s none =
-      others qs (feed p b (fedOf q)) (storedIn p b m q) x (room-stored b q m room s) (reachable-feed p b (fedOf q) s)
+  others [] b m x long s none = refl
+  others (q ∷ qs) b m x long s none =
+      others qs (feed p b (fedOf q)) (storedIn p b m q) x (long-stored b q m long s) (reachable-feed p b (fedOf q) s)
       (λ t v l. none t v (later l))
-      ∙ other b q m room s x (λ r j l e. none (q .task) (getD (q .bytes) j 0) (here refl r j l e refl))
+      ∙ other b q m long s x (λ r j l e. none (q .task) (getD (q .bytes) j 0) (here refl r j l e refl))
 
   -- ---- no block with bytes of two tasks
 

@@ -155,7 +155,7 @@ module _ (s : Session) (size : ℕ → ℕ) (M : ℕ) (lo : Layout (s .head .blo
             let now = now stays d in
             let at : startOf (s .head) size (q .task) (b (q .task) .u) + b (q .task) .w ≡ startOf (s .head) size (i + 1) (m + 1) + b (i + 1) .w =
             cc (e, same-u, same-w, last) in
-            let room = inside (m + 1) (omega arith) (omega (arith, f .reachable (i + 1) .1 .most)) in
+            let inside-at = inside (m + 1) (omega arith) (omega (arith, f .reachable (i + 1) .1 .most)) in
             grows i m (b (i + 1) .w) l (ap (λ (x : Tally). x .u) now ∙ sym last) (ap (λ (x : Tally). x .w) now) (omega arith)
             (rw d (ap (λ (x : ℕ). splice (st .image) x (q .bytes)) at)) (omega (arith, same-w))
             ∙ ap (λ (x : List ℕ). x ++ q .bytes) (sym (stream-last f i m l last))
@@ -164,7 +164,7 @@ module _ (s : Session) (size : ℕ → ℕ) (M : ℕ) (lo : Layout (s .head .blo
             let now = now moves d in
             let at : startOf (s .head) size (q .task) (b (q .task) .u + 1) ≡ startOf (s .head) size (i + 1) (m + 1) + 0 =
             cc (e, same-u, add-zero (startOf (s .head) size (i + 1) (m + 1))) in
-            let room = inside (m + 1) (omega arith) (omega (arith, same-u)) in
+            let inside-at = inside (m + 1) (omega arith) (omega (arith, same-u)) in
             grows i m 0 l (ap (λ (x : Tally). x .u) now) (ap (λ (x : Tally). x .w) now ∙ sym (zero-add (length (q .bytes)))) (omega arith)
             (rw d (ap (λ (x : ℕ). splice (st .image) x (q .bytes)) at)) (omega arith)
             ∙ ap (λ (x : List ℕ). x ++ q .bytes) (append-nil _ ∙ sym (stream-is f i l))

@@ -48,8 +48,8 @@ module _ {part : List ℕ} {h : Head} {maxchunks : ℕ} {lists : List ℕ} (r : 
       unfolding meta2Tests firstFailing
       answer =
           let value = valueField (isBig h) part (h .n) in
-          let room = holds h (sizeOf lists) in
-          let same = values-agree (h .n) maxchunks room room (countOf lists) (countIn h part) value value (λ i l. refl) count-kept (λ j l. refl) in
+          let capacity = holds h (sizeOf lists) in
+          let same = values-agree (h .n) maxchunks capacity capacity (countOf lists) (countIn h part) value value (λ i l. refl) count-kept (λ j l. refl) in
           rw (counts-judged ∙ e, ← same, ← judged)
 
 abbrev start : tie.After-counts → tie.Start
