@@ -17,18 +17,18 @@ ghost use Rattle.format.specs.Record.{entry, cell, allLists, rankOf, sizeOf};
 ghost use Rattle.format.specs.Meta1.{prefixLength, fixedLength, lastAt, padded, lastFields, openingBytes};
 ghost use Rattle.format.specs.Meta2.{meta2};
 ghost use Rattle.emit.specs.Parts.{versions, shape};
-use endian::store;
-use endian::write;
 use format::field;
 use format::head;
 use format::head::Head;
+use stores::bytes;
+use stores::numbers;
 
 // Zeros from `from` up to `to`.
 fn put_zeros(image: &mut [u8], from: usize, to: usize)
     requires { ⌜ (from ≤ to) × (to ≤ length (now image)) ⌝ }
     ensures { λ _. ⌜ now (image .exit) ≡ splice (now (image .entry)) from (replicate (to - from) 0) ⌝ }
 {
-    store::clear(&mut image[from..to]);
+    bytes::clear(&mut image[from..to]);
 }
 
 // n numbers of 8 bytes, from `at` on.
@@ -38,7 +38,7 @@ fn put_list(image: &mut [u8], at: usize, values: &[u64], n: usize, big: bool)
 {
     let mut i = 0;
     while i < n {
-        write::put_u64(image, at + 8 * i, big, values[i]);
+        numbers::put_u64(image, at + 8 * i, big, values[i]);
         i += 1;
     }
 }
@@ -50,7 +50,7 @@ fn put_cells(image: &mut [u8], at: usize, table: &[i64], cells: usize, big: bool
 {
     let mut j = 0;
     while j < cells {
-        write::put_i64(image, at + 8 * j, big, table[j]);
+        numbers::put_i64(image, at + 8 * j, big, table[j]);
         j += 1;
     }
 }
@@ -81,8 +81,8 @@ pub fn last_fields(image: &mut [u8], n: u32, big: bool, maxchunks: u32, start: u
     ensures { λ _. ⌜ now (image .exit) ≡ splice (now (image .entry)) (lastAt n) (lastFields big maxchunks start) ⌝ }
 {
     let at = layout::last_at(n as usize);
-    write::put_u32(image, at, big, maxchunks);
-    write::put_u64(image, at + 4, big, start);
+    numbers::put_u32(image, at, big, maxchunks);
+    numbers::put_u64(image, at + 4, big, start);
 }
 
 // The magic, the order and the versions, from 0 on.
@@ -91,11 +91,11 @@ fn put_versions(image: &mut [u8], big: bool, version: i32, patch: i32)
     ensures { λ _. ⌜ now (image .exit) ≡ splice (now (image .entry)) 0 (versions big version patch) ⌝ }
 {
     let magic = field::MAGIC;
-    store::copy_in(image, &magic);
-    write::put_u32(image, field::ORDER_AT, big, field::ORDER);
-    write::put_i32(image, field::VERSION_AT, big, version);
-    write::put_i32(image, field::PATCH_AT, big, patch);
-    write::put_u32(image, field::FORMAT_AT, big, field::FORMAT);
+    bytes::copy_in(image, &magic);
+    numbers::put_u32(image, field::ORDER_AT, big, field::ORDER);
+    numbers::put_i32(image, field::VERSION_AT, big, version);
+    numbers::put_i32(image, field::PATCH_AT, big, patch);
+    numbers::put_u32(image, field::FORMAT_AT, big, field::FORMAT);
 }
 
 // The blocksize, the tasks, the one file and two flags of zeros, from 20 on.
@@ -103,10 +103,10 @@ fn put_shape(image: &mut [u8], big: bool, blocksize: u32, n: u32)
     requires { ⌜ 52 ≤ length (now image) ⌝ }
     ensures { λ _. ⌜ now (image .exit) ≡ splice (now (image .entry)) 20 (shape big blocksize n) ⌝ }
 {
-    write::put_u32(image, field::BLOCKSIZE_AT, big, blocksize);
-    write::put_u32(image, field::TASKS_AT, big, n);
-    write::put_u32(image, field::FILES_AT, big, field::FILES);
-    write::put_u32(image, field::FILE_NUMBER_AT, big, field::FILE_NUMBER);
+    numbers::put_u32(image, field::BLOCKSIZE_AT, big, blocksize);
+    numbers::put_u32(image, field::TASKS_AT, big, n);
+    numbers::put_u32(image, field::FILES_AT, big, field::FILES);
+    numbers::put_u32(image, field::FILE_NUMBER_AT, big, field::FILE_NUMBER);
     put_zeros(image, field::FLAGS_AT, field::PREFIX_AT);
 }
 
@@ -115,7 +115,7 @@ fn put_prefix(image: &mut [u8], prefix: &[u8])
     requires { ⌜ (length (now prefix) ≤ prefixLength) × (52 + prefixLength ≤ length (now image)) ⌝ }
     ensures { λ _. ⌜ now (image .exit) ≡ splice (now (image .entry)) 52 (padded (now (prefix .entry))) ⌝ }
 {
-    store::copy_in(&mut image[field::PREFIX_AT..], prefix);
+    bytes::copy_in(&mut image[field::PREFIX_AT..], prefix);
     put_zeros(image, field::PREFIX_AT + prefix.len(), field::RANKS_AT);
 }
 

@@ -1,5 +1,3 @@
-// Numbers of 4 and 8 bytes in either byte order, unsigned and signed, and the two stores of bytes that all others go through.
+// Numbers of 4 and 8 bytes read in either byte order, unsigned and signed.
 pub mod read;
 pub mod sign;
-pub mod store;
-pub mod write;

@@ -8,9 +8,9 @@ ghost use Rattle.io.specs.Counts.{Counts};
 ghost use Rattle.format.specs.declared.loaded.Loaded.{Loaded};
 ghost use Rattle.format.specs.Reads.{containerOf};
 ghost use Rattle.format.specs.Line.{decimal, space, spaced, totalsOf, lineRoom, containerLine, lineOf};
-use endian::store;
 use format::head::LISTS;
 use format::loaded::Loaded;
+use stores::bytes;
 use streams::input::LONGEST;
 
 // The cells of the table that a container is loaded with.
@@ -27,7 +27,7 @@ fn put_number(out: &mut [u8], at: usize, n: u64) -> usize
 {
     let mut text = [0u8; 20];
     let k = io::decimal(n, &mut text);
-    store::copy_in(&mut out[at..], &text[..k]);
+    bytes::copy_in(&mut out[at..], &text[..k]);
     at + k
 }
 
@@ -92,7 +92,7 @@ pub fn line(input: &[u8], out: &mut [u8; LINE]) -> usize
     ensures { λ r. ⌜ (r < lineRoom) × (r < length (now (out .exit))) ⌝ }
 {
     if LONGEST < input.len() {
-        store::copy_in(out, b"long");
+        bytes::copy_in(out, b"long");
         return 4;
     }
     container_line(input, out)

@@ -7,12 +7,12 @@ ghost use Rattle.format.specs.declared.loaded.Loaded.{Loaded};
 ghost use Rattle.format.specs.declared.loaded.ByteCount.{ByteCount};
 ghost use Rattle.format.specs.Reads.{containerOf, streamOf, totalOf, totalAnswer, readAnswer, readOutput};
 ghost use Rattle.format.specs.Passed.{Readable};
-use endian::store;
 use format::head;
 use format::head::LISTS;
 use format::loaded::ByteCount;
 use format::loaded::Loaded;
 use format::refusal;
+use stores::bytes;
 
 // The bytes of a task that the tests allow, over all its chunks.
 fn total_of(l: Loaded, lists: &[u64], image: &[u8], table: &[i64], task: u64) -> u64
@@ -57,11 +57,11 @@ fn copy_chunk(part: &[u8], skip: u64, out: &mut [u8], done: usize) -> usize
     let from = skip as usize;
     let room = out.len() - done;
     if part.len() - from <= room {
-        store::copy_in(&mut out[done..], &part[from..]);
+        bytes::copy_in(&mut out[done..], &part[from..]);
         return done + (part.len() - from);
     }
     let end = from + room;
-    store::copy_in(&mut out[done..], &part[from..end]);
+    bytes::copy_in(&mut out[done..], &part[from..end]);
     out.len()
 }
 

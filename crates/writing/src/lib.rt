@@ -12,12 +12,12 @@ ghost use Rattle.writing.specs.declared.Decision.{Decision};
 ghost use Rattle.format.specs.Session.{stateOf, sessionTests};
 ghost use Rattle.format.specs.Write.{requestOf, writeRefusal, afterWrite};
 ghost use Rattle.writing.specs.Writing.{nextChunk, ChunkThere, decision};
-use endian::store;
 use format::head;
 use format::head::Head;
 use format::head::LISTS;
 use format::refusal;
 use format::session::Session;
+use stores::bytes;
 
 // What is decided of a write: the chunk that its bytes go to and the bytes that stand there before them, or a refusal; chunk 0 where
 // nothing is stored.
@@ -123,7 +123,7 @@ fn put(image: &mut [u8], h: Head, sizes: &[u64], task: u64, chunk: u64, from: u6
     let start = layout::chunk_start(sizes, h.n, h.blocksize, task, chunk) as usize;
     let free = start + from as usize;
     let end = start + layout::chunk_holds(sizes[i], h.blocksize) as usize;
-    store::copy_in(&mut image[free..end], bytes);
+    bytes::copy_in(&mut image[free..end], bytes);
 }
 
 // The request of a write to a session that passed its tests: 14, an empty one accepted, 15, 16, and then the stores, of the bytes, of the

@@ -1,18 +1,18 @@
--- The copy of the 8 bytes into the part from `at` on is a splice of the whole.
+-- The copy of the 4 bytes into the part from `at` on is a splice of the whole.
 use mathlib.Core.Path.{ap, _∙_}
 use Prim.Native.Nat.{_-_}
 use native.Mathlib.Omega.{arith}
 use lib.ListN.{length, take, drop}
 use borrow.Author.Needs.{needs}
 use Rattle.endian.specs.Number.{digits}
 use Rattle.lists.specs.Splice.{splice}
 use Rattle.endian.proofs.Number.{length-digits}
 use Rattle.lists.proofs.Splice.{splice-part}
-use Rattle.endian.proofs.write.put_u64.Statement.{statement}
-use Rattle.endian.proofs.write.put_u64.Tie as tie
+use Rattle.stores.proofs.numbers.put_u32.Statement.{statement}
+use Rattle.stores.proofs.numbers.put_u32.Tie as tie
 
-bytes8-requires : tie.Need-bytes8-requires
-bytes8-requires c κs = search needs
+bytes4-requires : tie.Need-bytes4-requires
+bytes4-requires c κs = search needs
 
 sub-copy-in : tie.Need-sub-copy-in
 sub-copy-in c = search needs
@@ -37,17 +37,17 @@ returns c =
     let z = c .before .before .before .before .before .before .before in
     let a = z .args in
     let n = length (a .s .now) - a .at in
-    let vs = digits (a .big) 8 (a .v) in
+    let vs = digits (a .big) 4 (a .v) in
     let copied = c .before .before .copy-in in
-    let made = c .before .before .before .before .before .bytes8 in
-    splice-part (a .s .now) (a .at) n vs (copied .last .0) (omega (arith, length-digits (a .big) 8 (a .v), z .pre)) (omega (arith, z .pre))
+    let made = c .before .before .before .before .before .bytes4 in
+    splice-part (a .s .now) (a .at) n vs (copied .last .0) (omega (arith, length-digits (a .big) 4 (a .v), z .pre)) (omega (arith, z .pre))
     (copied .ensures ∙ ap (splice (take n (drop (a .at) (a .s .now))) 0) (made .ensures))
 
-pub put-u64-spec : {M : Type 1} → statement M
-put-u64-spec =
+pub put-u32-spec : {M : Type 1} → statement M
+put-u32-spec =
     tie.close
     (tie.spec
-    bytes8-requires
+    bytes4-requires
     sub-copy-in
     part-copy-in-start
     part-copy-in-end

@@ -2,9 +2,9 @@
 use mathlib.Core.Path.{ap, _∙_}
 use mir.Facts.{toZ-ofZ}
 use borrow.Author.Needs.{needs}
 use Rattle.endian.specs.Signed.{bitsOf}
-use Rattle.endian.proofs.write.put_i64.Statement.{statement}
-use Rattle.endian.proofs.write.put_i64.Tie as tie
+use Rattle.stores.proofs.numbers.put_i64.Statement.{statement}
+use Rattle.stores.proofs.numbers.put_i64.Tie as tie
 
 bits64-requires : tie.Need-bits64-requires
 bits64-requires c κs = search needs

@@ -1,7 +1,7 @@
 -- In either order.
 use borrow.Author.Needs.{needs}
-use Rattle.endian.proofs.write.bytes8.Statement.{statement}
-use Rattle.endian.proofs.write.bytes8.Tie as tie
+use Rattle.stores.proofs.numbers.bytes8.Statement.{statement}
+use Rattle.stores.proofs.numbers.bytes8.Tie as tie
 
 cast-a : tie.Need-cast-a
 cast-a c = search needs
