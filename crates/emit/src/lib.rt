@@ -20,7 +20,7 @@ ghost use Rattle.emit.specs.Parts.{versions, shape};
 use format::field;
 use format::head;
 use format::head::Head;
-use stores::bytes;
+use stores::memory;
 use stores::numbers;
 
 // Zeros from `from` up to `to`.
@@ -28,7 +28,7 @@ fn put_zeros(image: &mut [u8], from: usize, to: usize)
     requires { ⌜ (from ≤ to) × (to ≤ length (now image)) ⌝ }
     ensures { λ _. ⌜ now (image .exit) ≡ splice (now (image .entry)) from (replicate (to - from) 0) ⌝ }
 {
-    bytes::clear(&mut image[from..to]);
+    memory::clear(&mut image[from..to]);
 }
 
 // n numbers of 8 bytes, from `at` on.
@@ -91,7 +91,7 @@ fn put_versions(image: &mut [u8], big: bool, version: i32, patch: i32)
     ensures { λ _. ⌜ now (image .exit) ≡ splice (now (image .entry)) 0 (versions big version patch) ⌝ }
 {
     let magic = field::MAGIC;
-    bytes::copy_in(image, &magic);
+    memory::copy_in(image, &magic);
     numbers::put_u32(image, field::ORDER_AT, big, field::ORDER);
     numbers::put_i32(image, field::VERSION_AT, big, version);
     numbers::put_i32(image, field::PATCH_AT, big, patch);
@@ -115,7 +115,7 @@ fn put_prefix(image: &mut [u8], prefix: &[u8])
     requires { ⌜ (length (now prefix) ≤ prefixLength) × (52 + prefixLength ≤ length (now image)) ⌝ }
     ensures { λ _. ⌜ now (image .exit) ≡ splice (now (image .entry)) 52 (padded (now (prefix .entry))) ⌝ }
 {
-    bytes::copy_in(&mut image[field::PREFIX_AT..], prefix);
+    memory::copy_in(&mut image[field::PREFIX_AT..], prefix);
     put_zeros(image, field::PREFIX_AT + prefix.len(), field::RANKS_AT);
 }
 

@@ -38,7 +38,6 @@ pub record PlanHolds (o : Opening) : Type 0 where
   pub order : isOrder (o .plan .order) ≡ true
   pub block : blocksizeRule (pos (o .plan .blocksize)) ≡ true
   pub task-rule : tasksRule (pos (tasks o)) ≡ true
-  pub some-tasks : 1 ≤ tasks o
   pub few-tasks : tasks o ≤ maxTasks
   pub listed : length (o .sizes) ≡ tasks o
   pub prefix-short : length (o .prefix) ≤ prefixLength
@@ -68,7 +67,6 @@ module _ (o : Opening) where
         order = not-false _ order;
         block = not-false _ block;
         task-rule = rule;
-        some-tasks = tasks-facts (tasks o) rule .0;
         few-tasks = tasks-facts (tasks o) rule .1;
         listed = sym (eqb-true _ _ (not-false _ (or-right (not (tasksRule (pos (tasks o)))) _ count)));
         prefix-short = ltb-false _ _ prefix;

@@ -10,7 +10,7 @@ ghost use Rattle.format.specs.Reads.{containerOf};
 ghost use Rattle.format.specs.Line.{decimal, space, spaced, totalsOf, lineRoom, containerLine, lineOf};
 use format::head::LISTS;
 use format::loaded::Loaded;
-use stores::bytes;
+use stores::memory;
 use streams::input::LONGEST;
 
 // The cells of the table that a container is loaded with.
@@ -27,7 +27,7 @@ fn put_number(out: &mut [u8], at: usize, n: u64) -> usize
 {
     let mut text = [0u8; 20];
     let k = io::decimal(n, &mut text);
-    bytes::copy_in(&mut out[at..], &text[..k]);
+    memory::copy_in(&mut out[at..], &text[..k]);
     at + k
 }
 
@@ -92,7 +92,7 @@ pub fn line(input: &[u8], out: &mut [u8; LINE]) -> usize
     ensures { λ r. ⌜ (r < lineRoom) × (r < length (now (out .exit))) ⌝ }
 {
     if LONGEST < input.len() {
-        bytes::copy_in(out, b"long");
+        memory::copy_in(out, b"long");
         return 4;
     }
     container_line(input, out)

@@ -12,7 +12,7 @@ use format::head::LISTS;
 use format::loaded::ByteCount;
 use format::loaded::Loaded;
 use format::refusal;
-use stores::bytes;
+use stores::memory;
 
 // The bytes of a task that the tests allow, over all its chunks.
 fn total_of(l: Loaded, lists: &[u64], image: &[u8], table: &[i64], task: u64) -> u64
@@ -57,11 +57,11 @@ fn copy_chunk(part: &[u8], skip: u64, out: &mut [u8], done: usize) -> usize
     let from = skip as usize;
     let room = out.len() - done;
     if part.len() - from <= room {
-        bytes::copy_in(&mut out[done..], &part[from..]);
+        memory::copy_in(&mut out[done..], &part[from..]);
         return done + (part.len() - from);
     }
     let end = from + room;
-    bytes::copy_in(&mut out[done..], &part[from..end]);
+    memory::copy_in(&mut out[done..], &part[from..end]);
     out.len()
 }
 

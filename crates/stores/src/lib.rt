@@ -1,3 +1,3 @@
-// The stores of bytes: the two that all others go through (`bytes`), and numbers of 4 and 8 bytes in either byte order (`numbers`).
-pub mod bytes;
+// The stores of bytes: the two that all others go through (`memory`), and numbers of 4 and 8 bytes in either byte order (`numbers`).
+pub mod memory;
 pub mod numbers;

@@ -5,7 +5,7 @@ ghost use lib.ListN.{length};
 ghost use Rattle.endian.specs.Number.{digits};
 ghost use Rattle.endian.specs.Signed.{signedDigits};
 ghost use Rattle.lists.specs.Splice.{splice};
-use crate::bytes;
+use crate::memory;
 use endian::sign;
 
 fn bytes4(v: u32, big: bool) -> [u8; 4]
@@ -51,7 +51,7 @@ pub fn put_u32(s: &mut [u8], at: usize, big: bool, v: u32)
     ensures { λ _. ⌜ now (s .exit) ≡ splice (now (s .entry)) at (digits big 4 v) ⌝ }
 {
     let bytes = bytes4(v, big);
-    bytes::copy_in(&mut s[at..], &bytes);
+    memory::copy_in(&mut s[at..], &bytes);
 }
 
 pub fn put_u64(s: &mut [u8], at: usize, big: bool, v: u64)
@@ -59,7 +59,7 @@ pub fn put_u64(s: &mut [u8], at: usize, big: bool, v: u64)
     ensures { λ _. ⌜ now (s .exit) ≡ splice (now (s .entry)) at (digits big 8 v) ⌝ }
 {
     let bytes = bytes8(v, big);
-    bytes::copy_in(&mut s[at..], &bytes);
+    memory::copy_in(&mut s[at..], &bytes);
 }
 
 pub fn put_i32(s: &mut [u8], at: usize, big: bool, z: i32)

@@ -17,7 +17,7 @@ use format::head::Head;
 use format::head::LISTS;
 use format::refusal;
 use format::session::Session;
-use stores::bytes;
+use stores::memory;
 
 // What is decided of a write: the chunk that its bytes go to and the bytes that stand there before them, or a refusal; chunk 0 where
 // nothing is stored.
@@ -123,7 +123,7 @@ fn put(image: &mut [u8], h: Head, sizes: &[u64], task: u64, chunk: u64, from: u6
     let start = layout::chunk_start(sizes, h.n, h.blocksize, task, chunk) as usize;
     let free = start + from as usize;
     let end = start + layout::chunk_holds(sizes[i], h.blocksize) as usize;
-    bytes::copy_in(&mut image[free..end], bytes);
+    memory::copy_in(&mut image[free..end], bytes);
 }
 
 // The request of a write to a session that passed its tests: 14, an empty one accepted, 15, 16, and then the stores, of the bytes, of the

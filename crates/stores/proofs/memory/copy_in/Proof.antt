@@ -9,8 +9,8 @@ use lib.ListN.{length, getD, set}
 use lib.Seq.{paste, paste-zero, paste-suc, take-length}
 use borrow.Author.Needs.{needs}
 use Rattle.lists.specs.Splice.{splice}
-use Rattle.stores.proofs.bytes.copy_in.Statement.{statement}
-use Rattle.stores.proofs.bytes.copy_in.Tie as tie
+use Rattle.stores.proofs.memory.copy_in.Statement.{statement}
+use Rattle.stores.proofs.memory.copy_in.Tie as tie
 
 abbrev Inv-loop : tie.InvT-loop
 Inv-loop part₀ src i₀ part i = (i ≤ length src) × (length part ≡ length part₀) × (part ≡ paste part₀ 0 src i)

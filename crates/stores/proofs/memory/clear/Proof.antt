@@ -7,8 +7,8 @@ use native.Mathlib.Numerals.{add-one}
 use lib.ListN.{length, take, set, replicate, length-set, replicate-append-replicate}
 use lib.Seq.{take-all, take-suc-set}
 use borrow.Author.Needs.{needs}
-use Rattle.stores.proofs.bytes.clear.Statement.{statement}
-use Rattle.stores.proofs.bytes.clear.Tie as tie
+use Rattle.stores.proofs.memory.clear.Statement.{statement}
+use Rattle.stores.proofs.memory.clear.Tie as tie
 
 abbrev Inv-loop : tie.InvT-loop
 Inv-loop part₀ i₀ part i = (i ≤ length part) × (length part ≡ length part₀) × (take i part ≡ replicate i 0)
