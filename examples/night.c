@@ -3,6 +3,9 @@
  *
  *     gcc -std=c99 -Iinclude -o target/night examples/night.c target/staticlib/liblapurmihi.a
  *     target/night night.sion
+ *     target/night --show night.sion
+ *
+ * The second only reads, any container of any size.
  */
 #include <inttypes.h>
 #include <stdio.h>
@@ -81,14 +84,29 @@ static void save(const char *name)
     free(image);
 }
 
+/* A file's bytes, in memory of just their length: a container may be of any size. */
+static uint8_t *whole(const char *name, size_t *length)
+{
+    FILE *file = fopen(name, "rb");
+    if (file == NULL || fseek(file, 0, SEEK_END) != 0)
+        fail(name);
+    long end = ftell(file);
+    if (end < 0 || fseek(file, 0, SEEK_SET) != 0)
+        fail(name);
+    *length = (size_t)end;
+    uint8_t *bytes = malloc(*length + 1); /* one more, since no memory at all may be NULL */
+    if (bytes == NULL)
+        fail("memory");
+    if (fread(bytes, 1, *length, file) != *length || fclose(file) != 0)
+        fail(name);
+    return bytes;
+}
+
 static void show(const char *name)
 {
-    static uint8_t image[65536];
     static int64_t table[LAPUR_CELLS];
-    FILE *file = fopen(name, "rb");
-    size_t length = file == NULL ? 0 : fread(image, 1, sizeof image, file);
-    if (file == NULL || ferror(file) || fclose(file) != 0)
-        fail(name);
+    size_t length;
+    uint8_t *image = whole(name, &length);
 
     struct lapur_load_answer answer = lapur_load(image, length, table, LAPUR_CELLS);
     check("lapur_load", answer.refusal);
@@ -113,16 +131,19 @@ static void show(const char *name)
         check("lapur_read", copied.refusal);
         fwrite(out, 1, (size_t)copied.bytes, stdout);
     }
+    free(image);
 }
 
 int main(int count, char **arguments)
 {
-    if (count != 2) {
-        fprintf(stderr, "usage: night FILE\n");
+    int reads = count == 3 && strcmp(arguments[1], "--show") == 0;
+    if (count != 2 && !reads) {
+        fprintf(stderr, "usage: night FILE, night --show FILE\n");
         return EXIT_FAILURE;
     }
-    save(arguments[1]);
-    show(arguments[1]);
+    if (!reads)
+        save(arguments[1]);
+    show(arguments[count - 1]);
     if (fflush(stdout) != 0 || ferror(stdout))
         fail("output");
     return EXIT_SUCCESS;

@@ -18,28 +18,34 @@
  *     lapur_total     the bytes of a task
  *     lapur_chunk     where in the image the bytes of one chunk lie
  *     lapur_read      copies bytes of a task's whole stream
+ *     lapur_length    the bytes of the container, without what follows it in the image
+ *     lapur_prefix    where in the image its filename prefix lies
  *
  * Answers. Every call is accepted, with the number 0, or refused with the number of the first of its tests that fails. A refused call
- * changes nothing: no byte of the image or of an output, no cell of the table, nothing of a lent record.
+ * changes nothing: no byte of the image or of an output, no cell of the table, nothing of a lent record. An accepted load says that the
+ * container's structure is whole, not that its bytes are the ones that were sent: the format has no checksum, so a changed byte in a
+ * chunk, a gap, the padding, the two version numbers, the flags, the prefix, a rank, a requested size or a written length may pass. Send a checksum
+ * such as sha256sum's beside the file.
  *
  * What may come in. Any values at all: records, images, tables and numbers are tested by each call, and nothing has to hold beforehand.
  * Only these things about memory are assumed and not tested:
  *
  *   - A buffer is a pointer and its length, in elements. The pointer is aligned and valid for that length, for writing where it is not
- *     const. It is never NULL: for an empty buffer, of length 0, any other aligned pointer does.
+ *     const. It is never NULL, not for an empty buffer either: with the length 0, hand over the address of any variable of the type.
  *   - A pointer to a record points to one.
  *   - The buffers lent to one call overlap neither one another nor the record.
  *
  * Memory. All of it is the caller's. The library allocates nothing and keeps nothing between calls, so a record is plain numbers that may
  * be copied, and calls on different memory may run at the same time. An image or a table may be longer than it needs to be: what follows
- * is not looked at and not changed. Bytes of the image that no call stores, such as the gaps between chunks, stay what they were, and
+ * is not looked at and not changed. Bytes of the image that no call stores, such as the gaps that chunks end in, stay what they were, and
  * they are part of the container: a container that leaves the caller's hands wants an image that was cleared first.
  *
  * What is proved. The library has the functions that are only declared here, and each of them is proved: lapur_needs, lapur_open,
- * lapur_load, and those whose names end in _lent. lapur_write, lapur_close, lapur_chunk, lapur_total and lapur_read are a few lines of C
- * over the function of their name with _lent.
+ * lapur_load, lapur_version, and those whose names end in _lent. lapur_write, lapur_close, lapur_chunk, lapur_total, lapur_read,
+ * lapur_length and lapur_prefix are a few lines of C over the function of their name with _lent.
  *
- * Link with target/staticlib/liblapurmihi.a, which tools/library builds.
+ * Link with liblapurmihi: `tools/install` puts the library, this header and a file for pkg-config where compilers find them, and
+ * `tools/library` builds target/staticlib/liblapurmihi.a in the repository.
  */
 #ifndef LAPURMIHI_H
 #define LAPURMIHI_H
@@ -50,6 +56,10 @@
 #ifdef __cplusplus
 extern "C" {
 #endif
+
+/* The version of this header: 10,000 times its first number, 100 times its second, and its third. */
+#define LAPUR_VERSION 100
+#define LAPUR_VERSION_TEXT "0.1.0"
 
 /* The most tasks of a container, and the entries that a record has for them. */
 #define LAPUR_TASKS 64
@@ -103,7 +113,7 @@ enum lapur_refusal {
     LAPUR_TOO_LONG = 15,
     /* the task has no chunk left */
     LAPUR_NO_CHUNK_LEFT = 16,
-    /* the session or the loaded record is closed or unsound */
+    /* the session or the loaded record is already closed, or its numbers or lists break a rule */
     LAPUR_BAD_RECORD = 17,
     /* the lent image or table is too short */
     LAPUR_TOO_SHORT = 18,
@@ -140,7 +150,7 @@ static inline const char *lapur_sentence(uint32_t refusal)
     case LAPUR_NO_TASK: return "there is no such task";
     case LAPUR_TOO_LONG: return "the request is longer than the task's chunk size";
     case LAPUR_NO_CHUNK_LEFT: return "the task has no chunk left";
-    case LAPUR_BAD_RECORD: return "the session or the loaded record is closed or unsound";
+    case LAPUR_BAD_RECORD: return "the session or the loaded record is already closed, or its numbers or lists break a rule";
     case LAPUR_TOO_SHORT: return "the lent image or table is too short";
     case LAPUR_CELLS_DISAGREE: return "the table's cells disagree with the record";
     case LAPUR_BAD_PLANNED: return "the planned blocks K are not from 1 to 32";
@@ -244,18 +254,34 @@ struct lapur_load_answer {
     uint32_t refusal;
 };
 
-/* What lapur_chunk answers: the written bytes of a chunk are image[start] up to, and without, image[start + length]. */
+/* What lapur_chunk and lapur_prefix answer: the bytes are image[start] up to, and without, image[start + length]. */
 struct lapur_part {
     uint32_t refusal;
     uint64_t start;
     uint64_t length;
 };
 
-/* What lapur_total and lapur_read answer. */
+/* What lapur_total, lapur_read and lapur_length answer. */
 struct lapur_byte_count {
     uint32_t refusal;
-    uint64_t bytes;                        /* the bytes of the task, or the bytes copied */
+    uint64_t bytes;                        /* the bytes of the task, the bytes copied, or the bytes of the container */
 };
+
+/* The sizes that these records have in the library: a compiler that is told to lay them out otherwise stops here. */
+#define LAPUR_SIZE(record, bytes) typedef char lapur_##record##_size[sizeof(struct lapur_##record) == (bytes) ? 1 : -1]
+LAPUR_SIZE(session_numbers, 28);
+LAPUR_SIZE(session, 1568);
+LAPUR_SIZE(loaded_numbers, 28);
+LAPUR_SIZE(loaded, 1568);
+LAPUR_SIZE(plan, 20);
+LAPUR_SIZE(needed, 24);
+LAPUR_SIZE(opened, 1576);
+LAPUR_SIZE(closed, 16);
+LAPUR_SIZE(closed_lent, 40);
+LAPUR_SIZE(load_answer, 1576);
+LAPUR_SIZE(part, 24);
+LAPUR_SIZE(byte_count, 16);
+#undef LAPUR_SIZE
 
 /*
  * The functions.
@@ -276,6 +302,9 @@ static inline const uint64_t *lapur_loaded_lists(const struct lapur_loaded *load
 {
     return (const uint64_t *)(const void *)((const char *)loaded + offsetof(struct lapur_loaded, ranks));
 }
+
+/* The version of the library that is linked, as LAPUR_VERSION counts. A program with the shared library compares the two. */
+uint32_t lapur_version(void);
 
 /*
  * What an opening with this plan needs. The number of tasks is the length of both lists; `prefix` is the filename prefix, at most 1024
@@ -436,6 +465,47 @@ static inline struct lapur_byte_count lapur_read(
     uint8_t *out, size_t out_length)
 {
     return lapur_read_lent(loaded->numbers, lapur_loaded_lists(loaded), image, image_length, table, cells, task, place, out, out_length);
+}
+
+/* lapur_length, of a record in two parts. */
+struct lapur_byte_count lapur_length_lent(
+    struct lapur_loaded_numbers numbers, const uint64_t lists[LAPUR_LISTS],
+    const uint8_t *image, size_t image_length,
+    const int64_t *table, size_t cells);
+
+/*
+ * Counts the bytes of the container, up to the end of META2: what follows them in the image is not part of it.
+ *
+ * Tests: 17, 18, 19.
+ * Refused: the count is 0.
+ */
+static inline struct lapur_byte_count lapur_length(
+    const struct lapur_loaded *loaded,
+    const uint8_t *image, size_t image_length,
+    const int64_t *table, size_t cells)
+{
+    return lapur_length_lent(loaded->numbers, lapur_loaded_lists(loaded), image, image_length, table, cells);
+}
+
+/* lapur_prefix, of a record in two parts. */
+struct lapur_part lapur_prefix_lent(
+    struct lapur_loaded_numbers numbers, const uint64_t lists[LAPUR_LISTS],
+    const uint8_t *image, size_t image_length,
+    const int64_t *table, size_t cells);
+
+/*
+ * Finds the filename prefix in the image, up to its first zero, or all 1024 bytes of its field where none is zero; nothing is copied. Its
+ * bytes are not judged: a prefix may hold anything.
+ *
+ * Tests: 17, 18, 19.
+ * Refused: the empty part, with start and length 0.
+ */
+static inline struct lapur_part lapur_prefix(
+    const struct lapur_loaded *loaded,
+    const uint8_t *image, size_t image_length,
+    const int64_t *table, size_t cells)
+{
+    return lapur_prefix_lent(loaded->numbers, lapur_loaded_lists(loaded), image, image_length, table, cells);
 }
 
 #ifdef __cplusplus

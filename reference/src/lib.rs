@@ -18,7 +18,7 @@ pub use container::{Container, Field};
 pub use generator::Rng;
 pub use layout::{meta1_end, Layout, FORMAT, MARK};
 pub use load::load;
-pub use read::{chunk, read, total};
+pub use read::{chunk, length, prefix, read, total};
 pub use record::{Head, Loaded, Session};
 pub use session::{close, open, write};
 pub use tally::{Answer, Tally};

@@ -1,6 +1,7 @@
-//! Holds the reads of a loaded record: one chunk's bytes, a copying read, and a task's total.
+//! Holds the reads of a loaded record: one chunk's bytes, a copying read, a task's total, and the whole container's length and prefix.
 
 use crate::demand;
+use crate::layout::MAX_PREFIX;
 use crate::Loaded;
 
 /// The written bytes of one chunk, task and chunk counted from 1; tests 17, 18, 19, 14, 22.
@@ -46,6 +47,19 @@ pub fn total(loaded: &Loaded, image: &[u8], table: &[i64], task: u64) -> Result<
     let task = loaded.head.task(task)?;
     let chunks = 0..loaded.head.counts[task];
     Ok(chunks.map(|chunk| cell(loaded, table, task, chunk)).sum())
+}
+
+/// The bytes of the container; tests 17, 18, 19.
+pub fn length(loaded: &Loaded, image: &[u8], table: &[i64]) -> Result<u64, u32> {
+    loaded.judge(image, table)?;
+    Ok(loaded.head.layout().end(u64::from(loaded.maxchunks)))
+}
+
+/// The filename prefix, up to its first zero; tests 17, 18, 19.
+pub fn prefix<'a>(loaded: &Loaded, image: &'a [u8], table: &[i64]) -> Result<&'a [u8], u32> {
+    loaded.judge(image, table)?;
+    let field = &image[52..52 + MAX_PREFIX];
+    Ok(field.split(|&byte| byte == 0).next().unwrap_or(field))
 }
 
 /// The written bytes of a used chunk, task and chunk counted from 0.

@@ -1,46 +1,144 @@
 //! Holds the command `show`: a container as a person reads it.
 
-use crate::args::{Args, Command};
+use crate::args::{Args, Command, Known};
+use crate::each::{each, unopened};
 use crate::failure::Failure;
-use crate::files::load;
-use lapurmihi::{ByteOrder, Container};
-use std::path::Path;
+use crate::text::{array, json, object, shown};
+use crate::{input, print, tell};
+use lapurmihi::{ByteOrder, Container, Task};
+use std::ffi::OsStr;
+use std::os::unix::ffi::OsStrExt;
 
-pub const COMMAND: Command =
-    Command { name: "show", called: "sion show", help: HELP, options: &[], run };
+pub const COMMAND: Command = Command {
+    name: "show",
+    called: "sion show",
+    help: HELP,
+    options: &[Known::Flag("--chunks"), Known::Flag("--json")],
+    run,
+};
 
 const HELP: &str = "\
-usage: sion show FILE
+usage: sion show [--chunks] [--json] FILE...
 
-Shows what a container holds: its byte order, versions and blocksize, and a line for each task with its rank,
-the size of its chunks, the chunks that it used, its bytes, and the share of those chunks that they fill.
+Shows what containers hold: byte order, versions, blocksize and filename prefix, the length of the file and the bytes
+that follow the container in it; and a line for each task with its rank, the size of its chunks, the chunks that it
+used, its bytes, and the share of those chunks that they fill. Where several files are named, a line FILE: stands
+before each. FILE '-' is standard input.
+
+    --chunks    list every chunk too: its task, rank and number, its offset in the file and its bytes
+    --json      print a JSON object for each file, with an array of its tasks
+
+The exit status is 0; 3 where a file could not be read or nothing could be printed, else 1 where one was refused;
+2 where the command line is wrong.
 ";
 
 const HEADINGS: [&str; 6] = ["task", "rank", "chunk size", "chunks", "bytes", "fill"];
+const CHUNK_HEADINGS: [&str; 5] = ["task", "rank", "chunk", "offset", "bytes"];
 
 fn run(args: &Args) -> Result<(), Failure> {
-    let [file] = &args.words[..] else {
-        return Err(Failure::Usage(COMMAND.called, "show takes one file".to_string()));
-    };
-    load(Path::new(file), |container| {
-        crate::print(&format!("{}\n{}", about(container), tasks(container)))
+    let (chunks, as_json) = (args.flag("--chunks"), args.flag("--json"));
+    let several = args.words.len() > 1;
+    each(&COMMAND, &args.words, |word, opened| match opened {
+        Ok(container) if as_json => print(&whole(word, container, chunks)),
+        Err(error) if as_json => print(&unopened(word, error)),
+        Ok(container) => {
+            let head = if several { format!("{}:\n", shown(word)) } else { String::new() };
+            let chunks = if chunks { format!("\n{}", parts(container)) } else { String::new() };
+            print(&format!("{head}{}\n{}{chunks}", about(container), tasks(container)))
+        }
+        Err(error) => {
+            tell(&input::failure(word, error));
+            Ok(())
+        }
     })
+}
+
+fn order(container: &Container) -> &'static str {
+    match container.byte_order() {
+        ByteOrder::Little => "little",
+        ByteOrder::Big => "big",
+    }
 }
 
 /// The lines about the whole container.
 fn about(container: &Container) -> String {
-    let order = match container.byte_order() {
-        ByteOrder::Little => "little",
-        ByteOrder::Big => "big",
+    let prefix = match container.prefix() {
+        b"" => "none".to_string(),
+        prefix => shown(OsStr::from_bytes(prefix)),
     };
-    format!(
-        "byte order   {order}\nversion      {}, patch level {}\nblocksize    {}\ntasks        {}\nmost chunks  {}\n",
-        container.version(),
-        container.patch(),
-        container.blocksize(),
-        container.tasks().len(),
-        container.maxchunks(),
-    )
+    let lines = [
+        ("byte order", order(container).to_string()),
+        ("version", format!("{}, patch level {}", container.version(), container.patch())),
+        ("blocksize", container.blocksize().to_string()),
+        ("tasks", container.tasks().len().to_string()),
+        ("most chunks", container.maxchunks().to_string()),
+        ("prefix", prefix),
+        ("file length", format!("{} bytes", container.image().len())),
+        ("trailing", format!("{} bytes", trailing(container))),
+    ];
+    lines.map(|(name, value)| format!("{name:<13}{value}\n")).concat()
+}
+
+/// The bytes of the file that follow the container.
+fn trailing(container: &Container) -> u64 {
+    container.image().len() as u64 - container.length()
+}
+
+/// All of a container as a line of JSON.
+fn whole(word: &OsStr, container: &Container, chunks: bool) -> String {
+    let fields = [
+        ("file", json(word)),
+        ("refusal", "0".to_string()),
+        ("order", json(order(container))),
+        ("version", container.version().to_string()),
+        ("patch", container.patch().to_string()),
+        ("blocksize", container.blocksize().to_string()),
+        ("maxchunks", container.maxchunks().to_string()),
+        ("prefix", json(OsStr::from_bytes(container.prefix()))),
+        ("filelength", container.image().len().to_string()),
+        ("length", container.length().to_string()),
+        ("trailing", trailing(container).to_string()),
+        ("tasks", array(container.tasks().map(|task| task_object(task, chunks)))),
+    ];
+    object(fields) + "\n"
+}
+
+fn task_object(task: Task, chunks: bool) -> String {
+    let mut fields = vec![
+        ("task", task.number().to_string()),
+        ("rank", task.rank().to_string()),
+        ("chunksize", task.chunk_size().to_string()),
+        ("used", task.chunks_used().to_string()),
+        ("bytes", task.total().to_string()),
+    ];
+    if chunks {
+        let objects = places(task).map(|[chunk, offset, bytes]| {
+            object([("chunk", chunk), ("offset", offset), ("bytes", bytes)])
+        });
+        fields.push(("chunks", array(objects)));
+    }
+    object(fields)
+}
+
+/// The number of each chunk that a task used, its offset in the file and its bytes.
+fn places(task: Task<'_>) -> impl Iterator<Item = [String; 3]> + use<'_> {
+    (1..=task.chunks_used()).map(move |chunk| {
+        let place = task.chunk_place(chunk).expect("a chunk that is used has its place");
+        [chunk.to_string(), place.start.to_string(), place.len().to_string()]
+    })
+}
+
+/// The table of the chunks.
+fn parts(container: &Container) -> String {
+    let mut rows = vec![CHUNK_HEADINGS.map(str::to_string)];
+    for task in container.tasks() {
+        let (number, rank) = (task.number().to_string(), task.rank().to_string());
+        rows.extend(
+            places(task)
+                .map(|[chunk, offset, bytes]| [number.clone(), rank.clone(), chunk, offset, bytes]),
+        );
+    }
+    aligned(&rows)
 }
 
 /// The table of the tasks, with a sum line.
@@ -83,20 +181,21 @@ fn aligned<const N: usize>(rows: &[[String; N]]) -> String {
 #[cfg(test)]
 mod tests {
     use super::*;
-    use lapurmihi::CELLS;
 
     const SAMPLE: &[u8] = include_bytes!("../../examples/two-tasks.sion");
 
     #[test]
     fn the_sample() {
-        let mut table = vec![0; CELLS];
-        let container = Container::load(SAMPLE, &mut table).unwrap();
+        let container = Container::from_bytes(SAMPLE.to_vec()).unwrap();
         let wanted = "\
 byte order   little
 version      1, patch level 7
 blocksize    512
 tasks        2
 most chunks  2
+prefix       data/run.sion
+file length  4656 bytes
+trailing     0 bytes
 ";
         assert_eq!(about(&container), wanted);
         let wanted = "\
@@ -106,6 +205,24 @@ task  rank  chunk size  chunks  bytes    fill
  sum                         2    501  50.1 %
 ";
         assert_eq!(tasks(&container), wanted);
+    }
+
+    #[test]
+    fn the_samples_chunks() {
+        let container = Container::from_bytes(SAMPLE.to_vec()).unwrap();
+        let wanted = "\
+task  rank  chunk  offset  bytes
+   1     0      1    1536    500
+   1     0      2    3072      1
+";
+        assert_eq!(parts(&container), wanted);
+        let wanted = concat!(
+            r#"{"task":1,"rank":0,"chunksize":500,"used":2,"bytes":501,"chunks":["#,
+            r#"{"chunk":1,"offset":1536,"bytes":500},{"chunk":2,"offset":3072,"bytes":1}]}"#,
+        );
+        assert_eq!(task_object(container.task(1).unwrap(), true), wanted);
+        let wanted = r#"{"task":2,"rank":1,"chunksize":600,"used":0,"bytes":0}"#;
+        assert_eq!(task_object(container.task(2).unwrap(), false), wanted);
     }
 
     #[test]

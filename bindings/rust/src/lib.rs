@@ -1,8 +1,8 @@
-//! Opens, fills, closes, checks and reads one container in the SIONlib file format, over memory that the caller lends.
+//! Opens, fills, closes, checks and reads one container in the SIONlib file format, in files or over memory that the caller lends.
 //!
-//! A container holds the bytes of up to 64 tasks, in chunks. The work is done by a library whose every function is proved; this crate only
-//! calls it. Nothing is allocated but a [`Plan`]'s lists, and every call is accepted or refused with one of the [`Refusal`]s. Tasks and
-//! chunks are counted from 1.
+//! A container holds the bytes of up to 64 tasks, in chunks. The work is done by a library whose every function is proved. Every call is
+//! accepted or refused with one of the [`Refusal`]s. Tasks and chunks are counted from 1. A session, and a container over lent memory,
+//! allocate nothing but a [`Plan`]'s lists and prefix; [`Container::open`] and its kin own their table and what cannot be mapped.
 //!
 //! ```
 //! use lapurmihi::{Container, Plan, CELLS};
@@ -35,18 +35,26 @@
 mod documents {
     #[doc = include_str!("../../../README.md")]
     struct Readme;
+    #[doc = include_str!("../README.md")]
+    struct Crate;
     #[doc = include_str!("../../../docs/USING.md")]
     struct Using;
 }
 
 mod container;
+mod mapping;
+mod memory;
+mod open_error;
 pub mod raw;
 mod refusal;
 mod session;
 mod stream;
+mod writer;
 
 pub use container::{Container, Task};
+pub use open_error::OpenError;
 pub use raw::{BLOCKS, CELLS, TASKS};
 pub use refusal::Refusal;
 pub use session::{ByteOrder, Needs, Plan, Session};
 pub use stream::Stream;
+pub use writer::Writer;

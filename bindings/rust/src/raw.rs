@@ -148,7 +148,7 @@ pub struct LoadAnswer {
     pub refusal: u32,
 }
 
-/// Where the written bytes of a chunk lie in the image.
+/// Where the written bytes of a chunk, or the filename prefix, lie in the image.
 #[repr(C)]
 #[derive(Clone, Copy, Debug, PartialEq, Eq)]
 pub struct Part {
@@ -160,7 +160,7 @@ pub struct Part {
     pub length: u64,
 }
 
-/// A number of bytes: a task's total, or what a read copied.
+/// A number of bytes: a task's total, what a read copied, or a container's length.
 #[repr(C)]
 #[derive(Clone, Copy, Debug, PartialEq, Eq)]
 pub struct ByteCount {
@@ -173,6 +173,8 @@ pub struct ByteCount {
 // A function whose name ends in `_lent` takes a record in two parts: its numbers, and its lists as one array.
 #[link(name = "lapurmihi", kind = "static")]
 extern "C" {
+    fn lapur_version() -> u32;
+
     fn lapur_needs(
         plan: Plan,
         ranks: *const u64,
@@ -258,6 +260,24 @@ extern "C" {
         out: *mut u8,
         out_len: usize,
     ) -> ByteCount;
+
+    fn lapur_length_lent(
+        numbers: LoadedNumbers,
+        lists: *const [u64; LISTS],
+        image: *const u8,
+        image_len: usize,
+        table: *const i64,
+        table_len: usize,
+    ) -> ByteCount;
+
+    fn lapur_prefix_lent(
+        numbers: LoadedNumbers,
+        lists: *const [u64; LISTS],
+        image: *const u8,
+        image_len: usize,
+        table: *const i64,
+        table_len: usize,
+    ) -> Part;
 }
 
 impl Session {
@@ -280,6 +300,12 @@ impl Loaded {
 
 // Each call below is sound for all arguments: a slice's pointer and length are good for as long as the call lasts, and so is the pointer to
 // a record's lists; two of them overlap only where both are shared, every record is plain numbers, and the library keeps no pointer.
+
+/// The library's version: 10,000 times its first number, 100 times its second, and its third.
+#[inline]
+pub fn version() -> u32 {
+    unsafe { lapur_version() }
+}
 
 /// What an opening with this plan needs: its tests but for the lengths of image and table, 2, 5, 6, 21, 8, 9 and 20.
 #[inline]
@@ -422,4 +448,20 @@ pub fn read(
             out.len(),
         )
     }
+}
+
+/// The bytes of the container, without what follows it in the image.
+#[inline]
+pub fn length(loaded: &Loaded, image: &[u8], table: &[i64]) -> ByteCount {
+    let (image, image_len) = (image.as_ptr(), image.len());
+    let (numbers, lists) = (loaded.numbers, loaded.lists());
+    unsafe { lapur_length_lent(numbers, lists, image, image_len, table.as_ptr(), table.len()) }
+}
+
+/// Where the filename prefix lies in the image; refused, the empty part at 0.
+#[inline]
+pub fn prefix(loaded: &Loaded, image: &[u8], table: &[i64]) -> Part {
+    let (image, image_len) = (image.as_ptr(), image.len());
+    let (numbers, lists) = (loaded.numbers, loaded.lists());
+    unsafe { lapur_prefix_lent(numbers, lists, image, image_len, table.as_ptr(), table.len()) }
 }

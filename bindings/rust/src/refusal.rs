@@ -57,7 +57,7 @@ refusals! {
     NoTask = 14 "NO_TASK" "there is no such task"
     TooLong = 15 "TOO_LONG" "the request is longer than the task's chunk size"
     NoChunkLeft = 16 "NO_CHUNK_LEFT" "the task has no chunk left"
-    BadRecord = 17 "BAD_RECORD" "the session or the loaded record is closed or unsound"
+    BadRecord = 17 "BAD_RECORD" "the session or the loaded record is already closed, or its numbers or lists break a rule"
     TooShort = 18 "TOO_SHORT" "the lent image or table is too short"
     CellsDisagree = 19 "CELLS_DISAGREE" "the table's cells disagree with the record"
     BadPlanned = 20 "BAD_PLANNED" "the planned blocks K are not from 1 to 32"

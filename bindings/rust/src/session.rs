@@ -101,7 +101,9 @@ impl Plan {
         Ok(Needs { image: length(needed.image), cells: length(needed.cells) })
     }
 
-    /// Opens a session over an image and a table, which may be longer than needed. What stands in them does not matter.
+    /// Opens a session over an image and a table, which may be longer than needed. What stands in the table does not matter. What stands in
+    /// the image stays where nothing is written, in gaps and in chunks that are not used, and becomes part of the container: lend one that
+    /// is cleared.
     pub fn open<'a>(
         &self,
         image: &'a mut [u8],
@@ -110,7 +112,7 @@ impl Plan {
         let Plan { ranks, sizes, prefix, .. } = self;
         let opened = raw::open(self.numbers(), ranks, sizes, prefix, image, table);
         accepted(opened.refusal)?;
-        Ok(Session { record: opened.session, image, table })
+        Ok(Session { record: opened.session, image, table, filled: [0; raw::TASKS] })
     }
 
     /// What of it is neither a list nor the prefix.
@@ -141,17 +143,26 @@ pub struct Session<'a> {
     record: raw::Session,
     image: &'a mut [u8],
     table: &'a mut [i64],
+    /// The bytes in each task's chunk in use.
+    filled: [u64; raw::TASKS],
 }
 
 impl<'a> Session<'a> {
     /// Writes bytes to a task, counted from 1: behind its last ones if they fit in its chunk in use, else to its next chunk.
     pub fn write(&mut self, task: u64, bytes: &[u8]) -> Result<(), Refusal> {
-        accepted(raw::write(&mut self.record, self.image, self.table, task, bytes))
+        let before = self.chunks_begun(task);
+        accepted(raw::write(&mut self.record, self.image, self.table, task, bytes))?;
+        let index = self.index(task)?;
+        if self.chunks_begun(task) != before {
+            self.filled[index] = 0;
+        }
+        self.filled[index] += bytes.len() as u64;
+        Ok(())
     }
 
     /// Closes the session, and hands back the container: the image as far as the container reaches.
     pub fn close(self) -> Result<&'a [u8], Refusal> {
-        let Session { mut record, image, table } = self;
+        let Session { mut record, image, table, .. } = self;
         let closed = raw::close(&mut record, image, table);
         accepted(closed.refusal)?;
         Ok(&image[..closed.length as usize])
@@ -169,18 +180,23 @@ impl<'a> Session<'a> {
 
     /// The most bytes that each chunk of a task, counted from 1, holds.
     pub fn chunk_size(&self, task: u64) -> Result<u64, Refusal> {
-        self.entry(&self.record.sizes, task)
+        Ok(self.record.sizes[self.index(task)?])
     }
 
     /// The chunks that a task, counted from 1, has begun.
     pub fn chunks_begun(&self, task: u64) -> Result<u64, Refusal> {
-        self.entry(&self.record.counts, task)
+        Ok(self.record.counts[self.index(task)?])
     }
 
-    /// A task's entry in a list of the record.
-    fn entry(&self, list: &[u64], task: u64) -> Result<u64, Refusal> {
-        let mut entries = (1..).zip(&list[..self.tasks()]);
-        entries.find(|&(number, _)| number == task).map(|(_, &entry)| entry).ok_or(Refusal::NoTask)
+    /// The bytes in the chunk in use of a task, counted from 1; without one, 0.
+    pub(crate) fn filled(&self, task: u64) -> Result<u64, Refusal> {
+        Ok(self.filled[self.index(task)?])
+    }
+
+    /// The index of a task, counted from 1, in the lists.
+    fn index(&self, task: u64) -> Result<usize, Refusal> {
+        let there = (1..=self.tasks() as u64).contains(&task);
+        there.then(|| task as usize - 1).ok_or(Refusal::NoTask)
     }
 }
 

@@ -30,22 +30,22 @@ use std::io::{self, BufRead, Read, Seek, SeekFrom};
 /// # Ok::<(), std::io::Error>(())
 /// ```
 #[derive(Clone)]
-pub struct Stream<'c, 'a> {
-    task: Task<'c, 'a>,
+pub struct Stream<'c> {
+    task: Task<'c>,
     place: u64,
     /// The chunk that was lent out last, and the place of its first byte.
-    chunk: &'a [u8],
+    chunk: &'c [u8],
     start: u64,
 }
 
-impl<'c, 'a> Stream<'c, 'a> {
+impl<'c> Stream<'c> {
     /// A task's bytes from the first on.
-    pub(crate) fn new(task: Task<'c, 'a>) -> Stream<'c, 'a> {
+    pub(crate) fn new(task: Task<'c>) -> Stream<'c> {
         Stream { task, place: 0, chunk: &[], start: 0 }
     }
 
     /// What follows the place in the chunk that was lent out last.
-    fn rest(&self) -> &'a [u8] {
+    fn rest(&self) -> &'c [u8] {
         let into = self.place.checked_sub(self.start).and_then(|into| usize::try_from(into).ok());
         into.and_then(|into| self.chunk.get(into..)).unwrap_or(&[])
     }
@@ -63,7 +63,7 @@ impl<'c, 'a> Stream<'c, 'a> {
     }
 }
 
-impl fmt::Debug for Stream<'_, '_> {
+impl fmt::Debug for Stream<'_> {
     fn fmt(&self, f: &mut fmt::Formatter<'_>) -> fmt::Result {
         f.debug_struct("Stream")
             .field("task", &self.task)
@@ -72,7 +72,7 @@ impl fmt::Debug for Stream<'_, '_> {
     }
 }
 
-impl Read for Stream<'_, '_> {
+impl Read for Stream<'_> {
     fn read(&mut self, out: &mut [u8]) -> io::Result<usize> {
         let copied = self.task.read_at(self.place, out)?;
         self.place += copied as u64;
@@ -80,7 +80,7 @@ impl Read for Stream<'_, '_> {
     }
 }
 
-impl BufRead for Stream<'_, '_> {
+impl BufRead for Stream<'_> {
     /// Lends the rest of the chunk that holds the next byte: a part of the image, not a copy.
     fn fill_buf(&mut self) -> io::Result<&[u8]> {
         if self.rest().is_empty() {
@@ -94,7 +94,7 @@ impl BufRead for Stream<'_, '_> {
     }
 }
 
-impl Seek for Stream<'_, '_> {
+impl Seek for Stream<'_> {
     /// Goes to a place up to the total; one past it is refused with 23.
     fn seek(&mut self, to: SeekFrom) -> io::Result<u64> {
         let place = match to {

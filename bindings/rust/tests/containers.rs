@@ -3,7 +3,7 @@
 mod common;
 
 use common::*;
-use lapurmihi::{ByteOrder, Container, Refusal};
+use lapurmihi::{ByteOrder, Container, Plan, Refusal};
 
 #[test]
 fn the_sample_is_read() {
@@ -33,7 +33,22 @@ fn only_the_cells_of_the_container_are_filled() {
 fn what_follows_the_container_is_not_looked_at() {
     let longer = [SAMPLE, &[0xFF; 100]].concat();
     let mut table = table();
-    assert_eq!(Container::load(&longer, &mut table).unwrap().task(1).unwrap().total(), 501);
+    let container = Container::load(&longer, &mut table).unwrap();
+    assert_eq!(container.task(1).unwrap().total(), 501);
+    assert_eq!((container.image(), container.length()), (&longer[..], 4656));
+}
+
+#[test]
+fn prefixes_are_read_back() {
+    let prefixes = [vec![], b"data/run.sion".to_vec(), vec![0xFF; 1023], vec![7; 1024]];
+    for (order, prefix) in
+        ORDERS.into_iter().flat_map(|order| prefixes.iter().map(move |p| (order, p)))
+    {
+        let plan = Plan::new(512).byte_order(order).prefix(&prefix[..]).task(0, 5);
+        let container = Container::from_bytes(packed(&plan, &[(1, b"abc")])).unwrap();
+        assert_eq!(container.prefix(), prefix);
+        assert_eq!(container.length() as usize, container.image().len());
+    }
 }
 
 /// What a load answers, over a table that a refused one leaves as it was.
@@ -140,14 +155,30 @@ fn reads_go_up_to_the_total_and_change_no_byte_behind() {
 }
 
 #[test]
-fn chunks_outlive_the_container() {
+fn chunks_outlive_the_task() {
     let mut table = table();
+    let container = Container::load(SAMPLE, &mut table).unwrap();
     let chunk = {
-        let container = Container::load(SAMPLE, &mut table).unwrap();
         let task = container.task(1).unwrap();
+        assert_eq!(task.chunk_place(2), Ok(3072..3073));
         task.chunk(2).unwrap()
     };
     assert_eq!(chunk, [250]);
+}
+
+#[test]
+fn tasks_are_found_by_their_ranks() {
+    let plan = Plan::new(512).task(7, 3).task(2_147_483_647, 3).task(0, 3);
+    let container = packed(&plan, &[(1, b"a"), (2, b"bb"), (3, b"ccc")]);
+    let mut table = table();
+    let container = Container::load(&container, &mut table).unwrap();
+    for (rank, number) in [(7, 1), (2_147_483_647, 2), (0, 3)] {
+        let task = container.task_by_rank(rank).unwrap();
+        assert_eq!((task.rank(), task.number(), task.total()), (rank, number, number));
+    }
+    for rank in [1, 1 << 32 | 7, u64::MAX] {
+        assert_eq!(container.task_by_rank(rank).unwrap_err(), Refusal::NoTask);
+    }
 }
 
 #[test]

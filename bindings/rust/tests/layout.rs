@@ -174,3 +174,11 @@ fn reads_test_the_record_and_the_memory_first() {
     assert_eq!(numbers(&loaded, SAMPLE, &[501, -1, 1, -1]), [19; 3]);
     assert_eq!(numbers(&loaded, SAMPLE, &table), [14; 3]);
 }
+
+#[test]
+fn the_library_has_the_version_of_the_crate() {
+    let number = |text: &str| text.parse::<u32>().unwrap();
+    let (first, second) = (env!("CARGO_PKG_VERSION_MAJOR"), env!("CARGO_PKG_VERSION_MINOR"));
+    let third = env!("CARGO_PKG_VERSION_PATCH");
+    assert_eq!(raw::version(), 10_000 * number(first) + 100 * number(second) + number(third));
+}

@@ -10,7 +10,7 @@ use Rattle.container.specs.Refusing.{Refusals}
 use Rattle.container.specs.Main.{Promises}
 use Rattle.format.proofs.Only.{only}
 use Rattle.format.proofs.Every.{every, says}
-use Rattle.container.proofs.Refusing.{load-number, load-refuses, chunk-refuses, chunk-judged, part-number, part-refuses, part-there, total-refuses, total-judged, read-refuses, read-judged, open-number, needs-refuses, needs-says, open-refuses, write-refuses, write-judged, close-refuses, close-judged, flag-ends}
+use Rattle.container.proofs.Refusing.{load-number, load-refuses, chunk-refuses, chunk-judged, part-number, part-refuses, part-there, total-refuses, total-judged, read-refuses, read-judged, length-refuses, length-judged, prefix-refuses, prefix-judged, open-number, needs-refuses, needs-says, open-refuses, write-refuses, write-judged, close-refuses, close-judged, flag-ends}
 use Rattle.format.proofs.Outcomes.{empty-keeps}
 use Rattle.container.proofs.ReadsBack.{reads-back, refuses-back}
 use Rattle.container.proofs.Opens.{opens-exactly}
@@ -27,6 +27,8 @@ refusals = record {
   part-refuses = part-refuses;
   total-refuses = total-refuses;
   read-refuses = read-refuses;
+  length-refuses = length-refuses;
+  prefix-refuses = prefix-refuses;
   needs-refuses = needs-refuses;
   open-refuses = open-refuses;
   write-refuses = write-refuses;
@@ -34,6 +36,8 @@ refusals = record {
   chunk-judged = chunk-judged;
   total-judged = total-judged;
   read-judged = read-judged;
+  length-judged = length-judged;
+  prefix-judged = prefix-judged;
   write-judged = write-judged;
   close-judged = close-judged;
   part-number = part-number;

@@ -26,6 +26,7 @@ use Rattle.format.specs.Loaded.{loadedSound, loadedOf}
 use Rattle.format.specs.Container.{Contents, HasMeta1, HasMeta2, Says}
 use Rattle.format.specs.Load.{loadRefusal, loadAnswer, loadTable}
 use Rattle.format.specs.Reads.{Container, containerOf, loadedTests, readTests, chunksUsed, writtenIn, chunkBytes, chunkRefusal, chunkPart, streamOf, totalOf, totalAnswer, readRefusal, readAnswer, readOutput, loadedFrom}
+use Rattle.format.specs.About.{wholeRefusal, lengthAnswer, prefixAnswer}
 use Rattle.container.specs.Format.{bytesSaid, streamSaid, totalSaid, ReadsBack, RefusesBack}
 use Rattle.format.proofs.InBounds.{block-kept, tasks-kept, ranks-kept, sizes-kept}
 use Rattle.format.proofs.Every.{headSaid, listsSaid, few, maxchunks-kept, counts-kept, values-kept, loaded-is, lists-are, table-long, says}
@@ -132,7 +133,7 @@ module _ (image : List ℕ) (s : Contents) (one : HasMeta1 image s) (two : HasMe
         ∙ rw (le-ltb (totalOf loaded (i + 1)) p (rw total-is h))
 
   made-reads : ReadsBack image s loaded
-  unfolding chunkPart totalAnswer readAnswer readOutput
+  unfolding chunkPart totalAnswer readAnswer readOutput lengthAnswer prefixAnswer wholeRefusal endAt
   made-reads = record {
     chunks = λ i k l u. each-passes i l k u;
     parts = λ i k l u. when-accepted _ _ _ (each-passes i l k u) ∙ bytes-are i l k u;
@@ -141,6 +142,10 @@ module _ (image : List ℕ) (s : Contents) (one : HasMeta1 image s) (two : HasMe
     copied = λ i p out l h. when-accepted _ _ _ (read-passes i l p h) ∙ ap (λ (t : ℕ). counted 0 (min (length out) (t - p))) (total-is i l);
     streams = λ i p out l h.
         when-accepted _ _ _ (read-passes i l p h) ∙ ap (λ (xs : List ℕ). splice out 0 (take (length out) (drop p xs))) (stream-is i l);
+    ends =
+        when-accepted _ _ _ loaded-passes
+        ∙ ap (counted 0) (endAt-agree (headSaid s) (sizeOf (listsSaid s)) (s .size) size-is (s .maxchunks));
+    prefixed = when-accepted _ _ _ loaded-passes;
   }
 
   -- ---- what is refused

@@ -24,7 +24,8 @@ use Rattle.format.proofs.Opening.{needs-number, needs-refused, open-plan, open-
 use Rattle.format.proofs.Outcomes.{refused-keeps}
 use Rattle.format.specs.Load.{loadRefusal, checkAnswer, loadAnswer, loadTable}
 use Rattle.format.specs.Reads.{Container, loadedTests, readTests, chunkRefusal, chunkBytes, chunkPart, chunkPlace, partAnswer, totalAnswer, readRefusal, readAnswer, readOutput}
-use Rattle.container.specs.Refusing.{loadNumbers, chunkNumbers, readNumbers, totalNumbers, needsNumbers, openNumbers, writeNumbers, closeNumbers, LoadRefuses, ChunkRefuses, PartRefuses, TotalRefuses, ReadRefuses, NeedsRefuses, NeedsSays, OpenRefuses, WriteRefuses, CloseRefuses, Ended}
+use Rattle.container.specs.Refusing.{loadNumbers, chunkNumbers, readNumbers, totalNumbers, needsNumbers, openNumbers, writeNumbers, recordNumbers, LoadRefuses, ChunkRefuses, PartRefuses, TotalRefuses, ReadRefuses, LengthRefuses, PrefixRefuses, NeedsRefuses, NeedsSays, OpenRefuses, WriteRefuses, CloseRefuses, Ended}
+use Rattle.format.specs.About.{wholeRefusal, lengthAnswer, prefixAnswer}
 use Rattle.container.specs.Format.{PartThere}
 use Rattle.format.specs.Accepted.{SessionJudged, LoadedJudged}
 use Rattle.lists.specs.Logic.{OneOf, Not}
@@ -150,6 +151,48 @@ module _ (c : Container) (task : ℕ) where
     unfolding readRefusal readTests loadedTests recordTests
     read-judged = rw read-number (loaded-judged c _ (under (omega arith), (over (omega arith), tt)))
 
+-- ---- the container as a whole
+
+module _ (c : Container) where
+  whole-listed : OneOf (0 ∷ recordNumbers) (wholeRefusal c)
+  unfolding wholeRefusal loadedTests recordTests listed
+  whole-listed = one-of-tests recordNumbers _ (refl, (refl, (refl, tt)))
+
+  whole-judged : LoadedJudged c (wholeRefusal c)
+  unfolding wholeRefusal loadedTests recordTests
+  whole-judged = loaded-judged c [] tt
+
+  length-number : lengthAnswer c .refusal ≡ wholeRefusal c
+  unfolding lengthAnswer
+  length-number = number-is (wholeRefusal c) _ _ (λ (a : ByteCount). a .refusal) refl refl
+
+  prefix-number : prefixAnswer c .refusal ≡ wholeRefusal c
+  unfolding prefixAnswer
+  prefix-number = number-is (wholeRefusal c) _ _ (λ (a : Part). a .refusal) refl refl
+
+  pub length-judged : LoadedJudged c (lengthAnswer c .refusal)
+  length-judged = rw length-number whole-judged
+
+  pub prefix-judged : LoadedJudged c (prefixAnswer c .refusal)
+  prefix-judged = rw prefix-number whole-judged
+
+  pub length-refuses : LengthRefuses c
+  unfolding lengthAnswer
+  length-refuses = record {
+    numbered = rw length-number whole-listed;
+    moves-nothing = λ l. ap (λ (a : ByteCount). a .bytes) (when-refused _ _ _ (rw length-number at l));
+  }
+
+  prefix-refused : 0 < wholeRefusal c → prefixAnswer c ≡ record { refusal = wholeRefusal c; start = 0; length = 0 }
+  unfolding prefixAnswer
+  prefix-refused l = when-refused _ _ _ l
+
+  pub prefix-refuses : PrefixRefuses c
+  prefix-refuses = record {
+    numbered = rw prefix-number whole-listed;
+    moves-nothing = λ l. rw (prefix-refused (rw prefix-number at l));
+  }
+
 -- ---- opening, writing and closing
 
 module _ (o : Opening) where
@@ -220,9 +263,9 @@ module _ (st : State) where
   unfolding closeAnswer
   close-number = number-is (closeRefusal st) _ _ (λ (a : Closed). a .refusal) refl refl
 
-  close-listed : OneOf (0 ∷ closeNumbers) (closeRefusal st)
+  close-listed : OneOf (0 ∷ recordNumbers) (closeRefusal st)
   unfolding closeRefusal sessionTests recordTests listed
-  close-listed = one-of-tests closeNumbers _ (refl, (refl, (refl, tt)))
+  close-listed = one-of-tests recordNumbers _ (refl, (refl, (refl, tt)))
 
   pub close-judged : SessionJudged st (closeAnswer st .refusal)
   unfolding closeRefusal sessionTests recordTests

@@ -15,7 +15,7 @@ use Rattle.format.specs.Layout.{meta1End, dataStart, chunkStart, meta2Start, me
 use Rattle.format.proofs.Chunks.{meta1-before-data, chunk-after-data, chunk-before-meta2}
 use Rattle.format.proofs.Power.{blocksize-facts}
 use Rattle.format.specs.declared.head.Head.{Head}
-use Rattle.format.specs.Meta1.{lastAt, meta1Front}
+use Rattle.format.specs.Meta1.{prefixAt, prefixLength, padded, lastAt, meta1Front}
 use Rattle.format.specs.Meta2.{valueIndex}
 use Rattle.format.specs.Record.{entry, cell, countOf, startOf}
 use Rattle.format.proofs.Stripes.{count-at}
@@ -40,7 +40,9 @@ use Rattle.container.proofs.Refusing.{load-number, close-number}
 use Rattle.format.proofs.Every.{every, says}
 use Rattle.container.proofs.ReadsBack.{reads-back}
 use Rattle.format.proofs.Stream.{counted}
-use Rattle.container.proofs.ClosedParts.{Closable, closedAs, closed-as-long, image-long, between-kept, closed-most, in-range, same-part}
+use Rattle.format.proofs.Stored.{prefix-back}
+use Rattle.format.proofs.About.{prefix-found, prefix-bytes}
+use Rattle.container.proofs.ClosedParts.{Closable, closedAs, startIn, length-said, meta1-there, closed-as-long, image-long, between-kept, closed-most, in-range, same-part}
 use Rattle.container.proofs.Closed.{has-meta1, has-meta2}
 use Rattle.format.proofs.Opens.{plan-passes}
 
@@ -192,11 +194,22 @@ module _ (s : Start) (is : IsStart s) (front : HasFront s) (qs : List Request) w
           ∙ ap (λ (s : List ℕ). splice out 0 (take (length out) (drop p s))) (stream-said i l);
     }
 
+    prefix-there : take prefixLength (drop prefixAt whole) ≡ padded (o .prefix)
+    unfolding openHead
+    prefix-there =
+        prefix-back (openHead o) (entry (o .ranks)) (entry (o .sizes)) (o .prefix) (Close.maxchunksUsed st) (startIn o st) whole
+        (plan .prefix-short) (meta1-there o st closable tail)
+
     loads-again : LoadsAgain o st bytes whole cells
     loads-again = record {
       accepts = load-number whole cells ∙ loads;
       recorded = said .recorded;
       gives-back = gives-back;
+      ends = back .ends ∙ ap (counted 0) (sym (length-said o st closable));
+      prefixed =
+          back .prefixed
+          ∙ ap (λ (n : ℕ). record { refusal = 0; start = prefixAt; length = n }) (prefix-found whole (o .prefix) (plan .prefix-short) prefix-there);
+      prefix-bytes = prefix-bytes whole (o .prefix) (plan .prefix-short) prefix-there;
     }
 
 pub written-back : (s : Start) → IsStart s → HasFront s → VersionsFit (s .plan) → (qs : List Request) → WrittenBack s qs

@@ -8,8 +8,8 @@ use lib.IntN.{ℤ}
 use lib.ListN.{length, getD, take, drop, replicate}
 use Rattle.lists.specs.Below.{sumBelow, joinBelow}
 use Rattle.lists.specs.Splice.{splice}
-use Rattle.format.specs.Layout.{meta1End, dataStart, chunkStart}
-use Rattle.format.specs.Meta1.{lastAt, lastFields, meta1}
+use Rattle.format.specs.Layout.{meta1End, dataStart, chunkStart, meta2End}
+use Rattle.format.specs.Meta1.{prefixAt, prefixLength, lastAt, lastFields, meta1}
 use Rattle.format.specs.Meta2.{unused, meta2}
 use Rattle.format.specs.Record.{entry, cell, sizeOf, countOf, isBig, meta2At, endAt}
 use Rattle.format.specs.declared.session.Session.{Session}
@@ -20,6 +20,7 @@ use Rattle.format.specs.Container.{Contents, IsContainer, Says, Lists, HeadSays
 use Rattle.format.specs.Accepted.{bytesFor, GoodPlan, GoodOpening}
 use Rattle.format.specs.Load.{loadAnswer, loadTable}
 use Rattle.format.specs.Reads.{Container, chunkRefusal, chunkPart, partAnswer, totalAnswer, readAnswer, readOutput}
+use Rattle.format.specs.About.{beforeZero, lengthAnswer, prefixAnswer}
 use Rattle.lists.specs.Logic.{Exactly}
 
 -- accepted exactly when the image is a container and the table has a cell for each of its values: both directions, and what is handed back
@@ -46,7 +47,8 @@ streamSaid image c i = joinBelow (c .count i) (bytesSaid image c i)
 unfoldable pub totalSaid : Contents → ℕ → ℕ
 totalSaid c i = sumBelow (c .count i) (λ k. c .written k i)
 
--- every used chunk, every total and every stream from every place in it; of a chunk, also that all of its bytes are there
+-- every used chunk, every total and every stream from every place in it; of a chunk, also that all of its bytes are there; then the container's
+-- length, and its prefix without the zeros that follow it
 pub record ReadsBack (image : List ℕ) (c : Contents) (loaded : Container) : Type 0 where
   pub chunks : (i k : ℕ) → i < c .n → k < c .count i → chunkRefusal loaded (i + 1) (k + 1) ≡ 0
   pub parts : (i k : ℕ) → i < c .n → k < c .count i → chunkPart loaded (i + 1) (k + 1) ≡ bytesSaid image c i k
@@ -56,8 +58,11 @@ pub record ReadsBack (image : List ℕ) (c : Contents) (loaded : Container) : Ty
       → readAnswer loaded (i + 1) p out ≡ record { refusal = 0; bytes = min (length out) (totalSaid c i - p) }
   pub streams : (i p : ℕ) → (out : List ℕ) → i < c .n → p ≤ totalSaid c i
       → readOutput loaded (i + 1) p out ≡ splice out 0 (take (length out) (drop p (streamSaid image c i)))
+  pub ends : lengthAnswer loaded ≡ record { refusal = 0; bytes = meta2End (c .blocksize) (c .n) (c .size) (c .maxchunks) }
+  pub prefixed : prefixAnswer loaded
+      ≡ record { refusal = 0; start = prefixAt; length = beforeZero (take prefixLength (drop prefixAt image)) }
 
--- and what is refused then: a task that is none, a chunk that is not in use, a place past the total, each with its own number
+-- and what is refused then: a task that there is not, a chunk that is not in use, a place past the total, each with its own number
 pub record RefusesBack (c : Contents) (loaded : Container) : Type 0 where
   pub no-task : (task chunk p : ℕ) → (out : List ℕ) → (task ≡ 0) ⊎ (c .n < task)
       → (chunkRefusal loaded task chunk ≡ 14) × (totalAnswer loaded task .refusal ≡ 14) × (readAnswer loaded task p out .refusal ≡ 14)

@@ -17,6 +17,7 @@ use Rattle.format.specs.Loaded.{noLoaded}
 use Rattle.format.specs.Accepted.{LoadedJudged, SessionJudged}
 use Rattle.format.specs.Load.{loadAnswer, loadTable}
 use Rattle.format.specs.Reads.{Container, chunkRefusal, chunkPart, partAnswer, totalAnswer, readAnswer, readOutput}
+use Rattle.format.specs.About.{lengthAnswer, prefixAnswer}
 use Rattle.lists.specs.Logic.{OneOf, Not}
 
 -- said once for any entry: its numbers, its answer, and what the call leaves, which after a refusal is what came, with zeros for what is handed back
@@ -47,8 +48,9 @@ needsNumbers = 2 ∷ 5 ∷ 6 ∷ 21 ∷ 8 ∷ 9 ∷ 20 ∷ []
 abbrev pub writeNumbers : List ℕ
 writeNumbers = 17 ∷ 18 ∷ 19 ∷ 14 ∷ 15 ∷ 16 ∷ []
 
-abbrev pub closeNumbers : List ℕ
-closeNumbers = 17 ∷ 18 ∷ 19 ∷ []
+-- of a close, and of the length and the prefix of a loaded container
+abbrev pub recordNumbers : List ℕ
+recordNumbers = 17 ∷ 18 ∷ 19 ∷ []
 
 -- ---- each entry: a record of zeros marked closed, lengths and counts of 0, an empty part, and all lent memory as it came
 
@@ -71,6 +73,12 @@ abbrev pub ReadRefuses : Container → ℕ → ℕ → List ℕ → Type 0
 ReadRefuses c task p out =
     let a = readAnswer c task p out in Refuses {A = ℕ × List ℕ} readNumbers (a .refusal) (a .bytes, readOutput c task p out) (0, out)
 
+abbrev pub LengthRefuses : Container → Type 0
+LengthRefuses c = Refuses recordNumbers (lengthAnswer c .refusal) (lengthAnswer c .bytes) 0
+
+abbrev pub PrefixRefuses : Container → Type 0
+PrefixRefuses c = let a = prefixAnswer c in Refuses {A = ℕ × ℕ} recordNumbers (a .refusal) (a .start, a .length) (0, 0)
+
 abbrev pub NeedsRefuses : Opening → Type 0
 NeedsRefuses o = let a = needsAnswer o in Refuses {A = ℕ × ℕ} needsNumbers (a .refusal) (a .image, a .cells) (0, 0)
 
@@ -86,7 +94,7 @@ WriteRefuses st q = Refuses writeNumbers (writeRefusal st q) (afterWrite st q) s
 abbrev pub CloseRefuses : State → Type 0
 CloseRefuses st =
     let a = closeAnswer st in
-    Refuses {A = Session × ℕ × List ℕ} closeNumbers (a .refusal) (a .session, a .length, closeImage st) (st .session, 0, st .image)
+    Refuses {A = Session × ℕ × List ℕ} recordNumbers (a .refusal) (a .session, a .length, closeImage st) (st .session, 0, st .image)
 
 -- what an opening needs says just how the opening is answered, whatever that is lent
 pub record NeedsSays (o : Opening) (image : List ℕ) (table : List ℤ) : Type 0 where
@@ -112,6 +120,8 @@ pub record Refusals : Type 0 where
   pub part-refuses : (c : Container) → (task chunk : ℕ) → PartRefuses c task chunk
   pub total-refuses : (c : Container) → (task : ℕ) → TotalRefuses c task
   pub read-refuses : (c : Container) → (task p : ℕ) → (out : List ℕ) → ReadRefuses c task p out
+  pub length-refuses : (c : Container) → LengthRefuses c
+  pub prefix-refuses : (c : Container) → PrefixRefuses c
   pub needs-refuses : (o : Opening) → NeedsRefuses o
   pub open-refuses : (o : Opening) → (image : List ℕ) → (table : List ℤ) → OpenRefuses o image table
   pub write-refuses : (st : State) → (q : Request) → WriteRefuses st q
@@ -120,6 +130,8 @@ pub record Refusals : Type 0 where
   pub chunk-judged : (c : Container) → (task chunk : ℕ) → LoadedJudged c (chunkRefusal c task chunk)
   pub total-judged : (c : Container) → (task : ℕ) → LoadedJudged c (totalAnswer c task .refusal)
   pub read-judged : (c : Container) → (task p : ℕ) → (out : List ℕ) → LoadedJudged c (readAnswer c task p out .refusal)
+  pub length-judged : (c : Container) → LoadedJudged c (lengthAnswer c .refusal)
+  pub prefix-judged : (c : Container) → LoadedJudged c (prefixAnswer c .refusal)
   pub write-judged : (st : State) → (q : Request) → SessionJudged st (writeRefusal st q)
   pub close-judged : (st : State) → SessionJudged st (closeAnswer st .refusal)
   -- what ties one answer to another

@@ -10,7 +10,7 @@ use Rattle.lists.specs.Below.{joinBelow}
 use Rattle.endian.specs.Signed.{natural}
 use Rattle.lists.specs.Splice.{splice}
 use Rattle.format.specs.Layout.{meta1End, dataStart, meta2Start, meta2Length, meta2End}
-use Rattle.format.specs.Meta1.{meta1}
+use Rattle.format.specs.Meta1.{prefixAt, meta1}
 use Rattle.format.specs.Meta2.{valueIndex, meta2}
 use Rattle.format.specs.Record.{entry, cell, countOf, isBig}
 use Rattle.format.specs.Session.{State}
@@ -20,6 +20,7 @@ use Rattle.format.specs.Close.{maxchunksUsed, closeAnswer, closeImage}
 use Rattle.format.specs.Container.{Contents, Recorded}
 use Rattle.format.specs.Load.{loadAnswer}
 use Rattle.format.specs.Reads.{Container, loadedFrom, chunkRefusal, chunkPart, totalAnswer, readAnswer, readOutput}
+use Rattle.format.specs.About.{beforeZero, lengthAnswer, prefixAnswer}
 use Rattle.container.specs.Start.{Start, openedStart, after, answersTo, begunBy, Puts}
 
 -- what the container of a session says: what the opening was given, the counts and the cells; maxchunks is the greatest count
@@ -49,11 +50,15 @@ pub record GivesBack (c : Container) (n : ℕ) (bytes : ℕ → List ℕ) : Type
       → readOutput c (i + 1) p out ≡ splice out 0 (take (length out) (drop p (bytes i)))
 
 -- the first `length` bytes of a closed session's image, followed by anything, loaded with any table that is long enough: accepted, with the
--- same fields; each task gives back the bytes accepted from it, in order
+-- same fields; each task gives back the bytes accepted from it, in order; the container is as long as closing said, and its prefix is the one that
+-- the opening was given, up to a zero in it
 pub record LoadsAgain (o : Opening) (st : State) (bytes : ℕ → List ℕ) (image : List ℕ) (table : List ℤ) : Type 0 where
   pub accepts : loadAnswer image table .refusal ≡ 0
   pub recorded : Recorded (contentsOf o st) (loadAnswer image table .loaded) (loadAnswer image table .lists)
   pub gives-back : GivesBack (loadedFrom image table) (tasks o) bytes
+  pub ends : lengthAnswer (loadedFrom image table) ≡ record { refusal = 0; bytes = closeAnswer st .length }
+  pub prefixed : prefixAnswer (loadedFrom image table) ≡ record { refusal = 0; start = prefixAt; length = beforeZero (o .prefix) }
+  pub prefix-bytes : take (beforeZero (o .prefix)) (drop prefixAt image) ≡ take (beforeZero (o .prefix)) (o .prefix)
 
 -- a start and any list of writes: the session closes, and loaded again each task gives the bytes already there, then those accepted from it
 pub record WrittenBack (s : Start) (qs : List Request) : Type 0 where

@@ -1,4 +1,6 @@
 // One container of the SIONlib file format over memory that the caller lends: all entries, with what is promised of them together.
+pub use about::prefix;
+pub use about::whole_length;
 pub use chunks::chunk;
 pub use chunks::chunk_refusal;
 pub use chunks::part;

@@ -12,6 +12,7 @@ pub mod Record
 pub mod Accepting
 pub mod Passing
 pub mod Stored
+pub mod About
 pub mod Sessions
 pub mod Opening
 pub mod Outcomes

@@ -23,6 +23,7 @@ use Rattle.format.specs.Close.{maxchunksOf, finished, closedImage, close
 use Rattle.format.specs.Judge.{magicIn, bigIn, orderedIn, tasksIn, maxchunksIn, headIn, rankIn, sizeIn, meta2In, startTests, fieldTests, fixedTests, listTests, lastTests, restTests, meta1Tests, countIn, valuesIn, meta2Tests}
 use Rattle.format.specs.Load.{meta2Bytes, loadedIn, listsIn, loadRefusal, checkAnswer, loadAnswer, loadTable}
 use Rattle.format.specs.Reads.{loadedTests, readTests, chunksUsed, writtenIn, chunkBytes, chunkRefusal, chunkPart, chunkPlace, partAnswer, streamOf, totalOf, totalAnswer, readRefusal, readAnswer, readOutput}
+use Rattle.format.specs.About.{beforeZero, wholeRefusal, lengthAnswer, prefixAnswer}
 use Rattle.format.specs.Tally.{Terms, Fed, Tally, outcome, answerTo, feed}
 use Rattle.format.specs.Numbers.{Agrees, pTable, otherTable}
 use Rattle.format.specs.Orders.{orderTable}
@@ -38,10 +39,10 @@ unfolding allBelow anyBelow sumBelow greatestBelow joinBelow flatten splice task
     openAnswer openImage openTable sessionTests begun inLast capacityOf spot target requestTests stored maxchunksOf finished
     closedImage writeRefusal afterWrite closeRefusal closeAnswer closeImage magicIn bigIn orderedIn tasksIn maxchunksIn headIn rankIn sizeIn meta2In
     startTests fieldTests fixedTests listTests lastTests restTests meta1Tests countIn valuesIn meta2Tests meta2Bytes loadedIn listsIn loadRefusal checkAnswer loadAnswer loadTable loadedTests readTests chunksUsed writtenIn chunkBytes
-    chunkRefusal chunkPart chunkPlace partAnswer streamOf totalOf totalAnswer readRefusal readAnswer readOutput outcome feed pTable otherTable orderTable byteTable totalsOf loaded rest containerLine lineOf lineTable
+    chunkRefusal chunkPart chunkPlace partAnswer streamOf totalOf totalAnswer readRefusal readAnswer readOutput beforeZero wholeRefusal lengthAnswer prefixAnswer outcome feed pTable otherTable orderTable byteTable totalsOf loaded rest containerLine lineOf lineTable
 all-tables = (
   (refl, (refl, (refl, (refl, (refl, (refl, (refl, (refl, (refl, (refl, (refl, (refl, (refl, tt))))))))))))),
-  (refl, (refl, (refl, (refl, (refl, (refl, (refl, (refl, (refl, (refl, (refl, (refl, (refl, (refl, (refl, (refl, tt)))))))))))))))),
+  (refl, (refl, (refl, (refl, (refl, (refl, (refl, (refl, (refl, (refl, (refl, (refl, (refl, (refl, (refl, (refl, (refl, tt))))))))))))))))),
   (refl, (refl, (refl, (refl, (refl, (refl, (refl, (refl, (refl, (refl, (refl, (refl, tt)))))))))))),
   (refl, (refl, (refl, (refl, (refl, (refl, (refl, tt))))))),
   (refl, (refl, (refl, (refl, (refl, tt))))),

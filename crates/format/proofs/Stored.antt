@@ -124,6 +124,12 @@ module _ (h : Head) (rank size : ℕ → ℕ) (prefix : List ℕ) (maxchunks sta
   unfolding flatten
   magic-back = ap (take 4) whole
 
+  pub prefix-back : take Meta1.prefixLength (drop Meta1.prefixAt image) ≡ Meta1.padded prefix
+  unfolding flatten
+  prefix-back =
+      ap (take Meta1.prefixLength) (from 11 Meta1.prefixAt refl)
+      ∙ take-at (Meta1.padded prefix) _ Meta1.prefixLength (length-padded prefix short)
+
   pub order-back : Meta1.orderField (isBig h) image ≡ pos Meta1.orderNumber
   order-back = field 1 4 4 (pos Meta1.orderNumber) _ refl refl (lit< tt) (lit< tt)
 

@@ -12,6 +12,7 @@ pub mod Close
 pub mod Loaded
 pub mod Load
 pub mod Reads
+pub mod About
 pub mod Passed
 pub mod Tally
 pub mod Container

@@ -27,7 +27,10 @@ fileCount = 1
 abbrev pub fileNumber : ℕ
 fileNumber = 0
 
--- the bytes of the filename prefix, and those before the ranks
+-- where the filename prefix stands, its bytes, and those before the ranks
+abbrev pub prefixAt : ℕ
+prefixAt = 52
+
 abbrev pub prefixLength : ℕ
 prefixLength = 1024
 

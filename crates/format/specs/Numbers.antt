@@ -19,6 +19,7 @@ use Rattle.format.specs.Write.{Request, target, writes, refusals}
 use Rattle.format.specs.Close.{closeAnswer, closeImage}
 use Rattle.format.specs.Load.{loadRefusal, loadAnswer}
 use Rattle.format.specs.Reads.{Container, chunkRefusal, chunkPart, partAnswer, totalAnswer, readRefusal, readAnswer, readOutput, loadedFrom}
+use Rattle.format.specs.About.{lengthAnswer, prefixAnswer}
 use Rattle.format.specs.Tally.{Terms, termsOf, fed, Tallies, offset, initial, outcomeIn, feedAll, answers, held}
 
 -- a row: what the rules compute, and what the paper says
@@ -225,6 +226,12 @@ reads c =
     ∷ readOutput c 1 499 (replicate 4 9)
     ++ (readRefusal c 1 502 ∷ readRefusal c 3 0 ∷ []))
 
+-- its length and its prefix
+abbrev pub whole : List ℕ → List ℕ
+whole image =
+    let c = loadedHere image in
+    lengthAnswer c .refusal ∷ lengthAnswer c .bytes ∷ prefixAnswer c .refusal ∷ prefixAnswer c .start ∷ prefixAnswer c .length ∷ []
+
 -- ---- the numbers of loading: a container of one task that wrote nothing, whole, cut short, and with one byte changed
 abbrev pub smallest : List ℕ
 smallest =
@@ -292,4 +299,10 @@ otherTable =
     -- versions, flags, prefix and padding are not tested: their first and last bytes
     ∷ row (map (λ (at : ℕ). changed at 255) (8 ∷ 15 ∷ 36 ∷ 43 ∷ 44 ∷ 51 ∷ 52 ∷ 1075 ∷ 1104 ∷ 1535 ∷ [])) (replicate 10 0)
     ∷ row (reads (loadedHere (twoImage 1 4656))) (3 ∷ 3072 ∷ 1 ∷ 22 ∷ 2 ∷ 2 ∷ 3 ∷ 9 ∷ 9 ∷ 23 ∷ 14 ∷ [])
+    -- P12's length, whatever follows; no prefix, one of two bytes before a zero, one that fills its field; and a record of zeros
+    ∷ row
+    (whole (twoImage 0 6000)
+    ++ (whole (splice (twoImage 1 4656) 52 (110 ∷ 97 ∷ 0 ∷ 97 ∷ []))
+    ++ (whole (splice (twoImage 0 4656) 52 (replicate 1024 1)) ++ whole [])))
+    (0 ∷ 4656 ∷ 0 ∷ 52 ∷ 0 ∷ 0 ∷ 4656 ∷ 0 ∷ 52 ∷ 2 ∷ 0 ∷ 4656 ∷ 0 ∷ 52 ∷ 1024 ∷ 17 ∷ 0 ∷ 17 ∷ 0 ∷ 0 ∷ [])
     ∷ []

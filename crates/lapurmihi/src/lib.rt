@@ -17,6 +17,7 @@ ghost use Rattle.format.specs.declared.loaded.LoadAnswer.{LoadAnswer};
 ghost use Rattle.format.specs.declared.loaded.Part.{Part};
 ghost use Rattle.format.specs.declared.loaded.ByteCount.{ByteCount};
 ghost use Rattle.format.specs.Load.{loadAnswer, loadTable};
+ghost use Rattle.format.specs.About.{lengthAnswer, prefixAnswer};
 ghost use Rattle.format.specs.Reads.{containerOf, partAnswer, totalAnswer, readAnswer, readOutput};
 use format::head::LISTS;
 use format::loaded::ByteCount;
@@ -28,6 +29,16 @@ use format::session::Needed;
 use format::session::Opened;
 use format::session::Plan;
 use format::session::Session;
+
+// The library's version: 10,000 times the first number, 100 times the second, and the third.
+pub const VERSION: u32 = 100;
+
+#[no_mangle]
+pub extern "C" fn lapur_version() -> u32
+    ensures { λ r. ⌜ r ≡ 100 ⌝ }
+{
+    VERSION
+}
 
 #[no_mangle]
 pub extern "C" fn lapur_needs(plan: Plan, ranks: &[u64], sizes: &[u64], prefix: &[u8]) -> Needed
@@ -130,4 +141,29 @@ pub extern "C" fn lapur_read_lent(
     ensures { λ _. ⌜ now (out .exit) ≡ readOutput (containerOf l (now (lists .entry)) (now (image .entry)) (now (table .entry))) task p (now (out .entry)) ⌝ }
 {
     container::read(l, lists, image, table, task, p, out)
+}
+
+#[no_mangle]
+pub extern "C" fn lapur_length_lent(
+    l: Loaded,
+    lists: &[u64; LISTS],
+    image: &[u8],
+    table: &[i64],
+) -> ByteCount
+    ensures { λ r. ⌜ r ≡ lengthAnswer (containerOf l (now (lists .entry)) (now (image .entry)) (now (table .entry))) ⌝ }
+{
+    container::whole_length(l, lists, image, table)
+}
+
+#[no_mangle]
+pub extern "C" fn lapur_prefix_lent(
+    l: Loaded,
+    lists: &[u64; LISTS],
+    image: &[u8],
+    table: &[i64],
+) -> Part
+    ensures { λ r. ⌜ r ≡ prefixAnswer (containerOf l (now (lists .entry)) (now (image .entry)) (now (table .entry))) ⌝ }
+    ensures { λ r. ⌜ r .start + r .length ≤ length (now (image .entry)) ⌝ }
+{
+    container::prefix(l, lists, image, table)
 }

@@ -14,6 +14,8 @@ pub enum Call {
     Chunk { task: u64, chunk: u64 },
     Total { task: u64 },
     Read { task: u64, place: u64 },
+    Length,
+    Prefix,
 }
 
 /// The refusal number or 0, and the numbers beside it, which are 0 where an entry has none or refuses.

@@ -18,12 +18,11 @@ pub fn answer(call: &Call, memory: &mut LibraryMemory) -> Answer {
             Answer { refusal, numbers: [length, 0] }
         }
         Call::Load => load(loaded, image, table),
-        Call::Chunk { task, chunk } => {
-            let Part { refusal, start, length } = raw::chunk(loaded, image, table, task, chunk);
-            Answer { refusal, numbers: [start, length] }
-        }
+        Call::Chunk { task, chunk } => placed(raw::chunk(loaded, image, table, task, chunk)),
         Call::Total { task } => counted(raw::total(loaded, image, table, task)),
         Call::Read { task, place } => counted(raw::read(loaded, image, table, task, place, buffer)),
+        Call::Length => counted(raw::length(loaded, image, table)),
+        Call::Prefix => placed(raw::prefix(loaded, image, table)),
     }
 }
 
@@ -54,6 +53,10 @@ fn numbers(plan: &Plan) -> raw::Plan {
 
 fn plain(refusal: u32) -> Answer {
     Answer { refusal, numbers: [0, 0] }
+}
+
+fn placed(Part { refusal, start, length }: Part) -> Answer {
+    Answer { refusal, numbers: [start, length] }
 }
 
 fn counted(ByteCount { refusal, bytes }: ByteCount) -> Answer {

@@ -30,6 +30,7 @@ pub fn reload(
     let mut memory = Memory::new(Lent::all(image), Lent::all(before));
     same("the answer", memory.call(&Call::Load)?.refusal, 0)?;
     same_memory(&memory.for_library(), &Memory { loaded, table, ..memory.clone() })?;
+    same("the length", memory.call(&Call::Length)?.numbers, [length, 0])?;
     for (task, bytes) in (1..).zip(accepted) {
         memory.buffer = Lent::all(vec![0; bytes.len() + 1]);
         let answer = memory.call(&Call::Read { task, place: 0 })?;
@@ -55,10 +56,19 @@ fn read_all(mut memory: Memory, rng: &mut Rng, counts: &mut Counts) -> Result<()
         }
         read_stream(&mut memory, task, rng, counts)?;
     }
+    whole(&mut memory, counts)?;
     hostile::change_loaded(&mut memory, rng);
+    whole(&mut memory, counts)?;
     let (task, chunk) = (rng.below(tasks as usize + 2) as u64, rng.below(3) as u64);
     counts.add(memory.call(&Call::Chunk { task, chunk })?);
     read_stream(&mut memory, task, rng, counts)
+}
+
+/// Asks for the container's length and its prefix.
+fn whole(memory: &mut Memory, counts: &mut Counts) -> Result<(), String> {
+    counts.add(memory.call(&Call::Length)?);
+    counts.add(memory.call(&Call::Prefix)?);
+    Ok(())
 }
 
 /// Asks for a task's total, and reads from a random place in its stream, or from just behind it.

@@ -20,10 +20,12 @@ pub const OF_SESSION: [Entry; 2] = [
 ];
 
 /// The entries that take a loaded container's record.
-pub const OF_LOADED: [Entry; 3] = [
+pub const OF_LOADED: [Entry; 5] = [
     ("chunk", &[RECORD, LENT, CELL, TASK, CHUNK], |task, chunk| Call::Chunk { task, chunk }),
     ("total", &[RECORD, LENT, CELL, TASK], |task, _| Call::Total { task }),
     ("read", &[RECORD, LENT, CELL, TASK, PLACE], |task, place| Call::Read { task, place }),
+    ("length", &[RECORD, LENT, CELL], |_, _| Call::Length),
+    ("prefix", &[RECORD, LENT, CELL], |_, _| Call::Prefix),
 ];
 
 const RECORD: Test<Request> = &[("record", 17, |it, _, rng| spoil_head(it.head(), rng))];

@@ -25,12 +25,15 @@ pub fn answer(call: &Call, memory: &mut Memory) -> Answer {
             *loaded = found.clone().unwrap_or_else(|_| Loaded::refused());
             found.map(|_| [0, 0])
         }
-        Call::Chunk { task, chunk } => reference::chunk(loaded, image, table, task, chunk)
-            .map(|part| [offset(part, image), part.len() as u64]),
+        Call::Chunk { task, chunk } => {
+            reference::chunk(loaded, image, table, task, chunk).map(|part| place(part, image))
+        }
         Call::Total { task } => reference::total(loaded, image, table, task).map(|sum| [sum, 0]),
         Call::Read { task, place } => {
             reference::read(loaded, image, table, task, place, buffer).map(|copied| [copied, 0])
         }
+        Call::Length => reference::length(loaded, image, table).map(|bytes| [bytes, 0]),
+        Call::Prefix => reference::prefix(loaded, image, table).map(|part| place(part, image)),
     };
     match answer {
         Ok(numbers) => Answer { refusal: 0, numbers },
@@ -51,7 +54,8 @@ fn open(plan: &Plan, image: &mut [u8], table: &mut [i64]) -> Result<Session, u32
     reference::open(order, version, patch, blocksize, ranks, sizes, prefix, k, image, table)
 }
 
-/// Where a part of the image starts in it.
-fn offset(part: &[u8], image: &[u8]) -> u64 {
-    (part.as_ptr() as usize - image.as_ptr() as usize) as u64
+/// Where a part of the image starts in it, and its length.
+fn place(part: &[u8], image: &[u8]) -> [u64; 2] {
+    let start = part.as_ptr() as usize - image.as_ptr() as usize;
+    [start as u64, part.len() as u64]
 }

@@ -1,0 +1,84 @@
+//! Holds the command `check`: containers judged, one line for each.
+
+use crate::args::{Args, Command, Known};
+use crate::each::{each, unopened};
+use crate::failure::Failure;
+use crate::text::{array, json, object, shown};
+use crate::{input, page, print, tell};
+use lapurmihi::{Container, OpenError, Refusal};
+use std::ffi::OsStr;
+use std::io::{stderr, IsTerminal};
+
+pub const COMMAND: Command = Command {
+    name: "check",
+    called: "sion check",
+    help: HELP,
+    options: &[Known::Flag("--quiet"), Known::Flag("--json")],
+    run,
+};
+
+const HELP: &str = "\
+usage: sion check [--quiet] [--json] FILE...
+
+Judges containers of any size, one line for each:
+
+    night.sion: 0 2 1 27 10           accepted; 2 tasks, at most 1 chunk for each, their bytes
+    night.sion: 12 BAD_META2_PLACE    refused; 'sion explain 12' says what to do
+
+FILE '-' is standard input; what comes through a pipe is held in memory. What follows a container in its file is
+not looked at; 'sion show' counts it.
+
+    --quiet    print nothing but failures of the system; the exit status says the rest
+    --json     print a JSON object for each file: its refusal is 0 and the rest as above, or its name,
+               what it means and what to do; a file that cannot be read has an error
+
+Every file is judged, also after one that fails, but for a file that is shortened while it is read: that ends the
+run with 3. The exit status is 0 where all were accepted; 3 where a file could not be read or nothing could be
+printed, else 1 where one was refused; 2 where the command line is wrong.
+";
+
+fn run(args: &Args) -> Result<(), Failure> {
+    let (quiet, json) = (args.flag("--quiet"), args.flag("--json"));
+    each(&COMMAND, &args.words, |word, opened| match opened {
+        _ if json && !quiet => print(&judged(word, opened)),
+        Err(error @ OpenError::File(_)) => {
+            tell(&input::failure(word, error));
+            Ok(())
+        }
+        _ if quiet => Ok(()),
+        Ok(container) => print(&line(word, container)),
+        Err(OpenError::Refused(refusal)) => refused(word, *refusal),
+    })
+}
+
+/// The line that sioncheck prints too: 0, the tasks, the greatest number of chunks, each task's bytes.
+fn line(word: &OsStr, container: &Container) -> String {
+    let totals: String = container.tasks().map(|task| format!(" {}", task.total())).collect();
+    let (tasks, maxchunks) = (container.tasks().len(), container.maxchunks());
+    format!("{}: 0 {tasks} {maxchunks}{totals}\n", shown(word))
+}
+
+/// The line of a refusal, and for a person at a terminal what it means.
+fn refused(word: &OsStr, refusal: Refusal) -> Result<(), Failure> {
+    print(&format!("{}: {} {}\n", shown(word), refusal.number(), refusal.name()))?;
+    if let (true, Some(advice)) = (stderr().is_terminal(), page::advice(refusal)) {
+        tell(&Failure::Refused(format!("{}: {advice}", input::name(word))));
+    }
+    Ok(())
+}
+
+/// A line of JSON.
+fn judged(word: &OsStr, opened: &Result<Container, OpenError>) -> String {
+    let container = match opened {
+        Ok(container) => container,
+        Err(error) => return unopened(word, error),
+    };
+    let fields = [
+        ("file", json(word)),
+        ("refusal", "0".to_string()),
+        ("tasks", container.tasks().len().to_string()),
+        ("maxchunks", container.maxchunks().to_string()),
+        ("totals", array(container.tasks().map(|task| task.total().to_string()))),
+    ];
+    object(fields) + "\n"
+}

@@ -1,0 +1,155 @@
+//! Holds the command `create`: files put into a container, each into a task of its own.
+
+use crate::args::{Args, Command, Known};
+use crate::failure::Failure;
+use crate::files::{Place, Sparse};
+use crate::plan::{planned, Asked};
+use crate::progress::Progress;
+use crate::sources::{inputs, Input};
+use crate::system::{free_memory, Zeros};
+use crate::text::{reason, shown};
+use lapurmihi::{ByteOrder, Refusal};
+use std::os::unix::ffi::OsStrExt;
+use std::path::Path;
+
+pub const COMMAND: Command = Command {
+    name: "create",
+    called: "sion create",
+    help: HELP,
+    options: &[
+        Known::Valued("--blocksize"),
+        Known::Valued("--order"),
+        Known::Valued("--prefix"),
+        Known::Valued("--blocks"),
+        Known::Flag("--force"),
+    ],
+    run,
+};
+
+const HELP: &str = "\
+usage: sion create [OPTIONS] CONTAINER [RANK=]FILE...
+
+Puts each file into a task of its own. RANK=FILE gives its rank; a file of the name rank-N, as 'sion extract' makes
+them, has the rank N; where no file has a rank, they are 0, 1 and so on in their order. Some with and some without
+are a wrong command line. A name that begins with digits and '=' is written ./5=x. The files are regular ones,
+at most 64; '-' names neither a file nor the container. What they hold has to fit in the computer's memory.
+
+    --blocksize SIZE      bytes of a file-system block: a power of two from 512 to 4M (4k)
+    --order little|big    byte order of the container's numbers (little)
+    --prefix TEXT         filename prefix that the container names (none)
+    --blocks K            blocks that are planned, 1 to 32 (as few as needed); a file is spread over at most so many
+    --force               replace CONTAINER if it is a regular file and none of the files; its mode stays
+
+A SIZE may end in k or M. The container is made under a temporary name beside it, and is there once it is whole
+and stored on the drive. A symbolic link is never replaced: name the file that it leads to.
+
+The exit status is 0; 1 where the library refuses what is asked for, with the refusal's number; 2 where the command
+line is wrong; 3 where a file could not be read or written, or exists.
+";
+
+fn run(args: &Args) -> Result<(), Failure> {
+    let wrong = |what| Failure::Usage(COMMAND.called, what);
+    let asked = asked(args).map_err(wrong)?;
+    let (container, files) = match &args.words[..] {
+        [] => {
+            return Err(wrong("create takes a container and the files to put into it".to_string()))
+        }
+        [container, ..] if container == "-" => {
+            return Err(wrong(
+                "a container is made under a name, not on standard output".to_string(),
+            ));
+        }
+        [_] => return Err(wrong("create takes at least one file".to_string())),
+        [container, files @ ..] => (Path::new(container), files),
+    };
+    let inputs = inputs(files, wrong)?;
+    let sources: Vec<_> = inputs.iter().map(|input| &input.source).collect();
+    let place = Place { path: container, force: args.flag("--force"), sources: &sources };
+    place.free()?;
+    create(&asked, &inputs, &place)
+}
+
+/// What the options ask for.
+fn asked(args: &Args) -> Result<Asked<'_>, String> {
+    let order = match args.value("--order") {
+        None => ByteOrder::Little,
+        Some(order) if order == "little" => ByteOrder::Little,
+        Some(order) if order == "big" => ByteOrder::Big,
+        Some(other) => return Err(format!("--order is little or big, not '{}'", shown(other))),
+    };
+    Ok(Asked {
+        blocksize: args.size("--blocksize")?.unwrap_or(4096),
+        order,
+        prefix: args.value("--prefix").map_or(b"", |prefix| prefix.as_bytes()),
+        blocks: args.number("--blocks")?,
+    })
+}
+
+/// Fills a session over memory of its own, and makes the container's file of it.
+fn create(asked: &Asked, inputs: &[Input], place: &Place) -> Result<(), Failure> {
+    let container = shown(place.path);
+    let plan = planned(asked, inputs)
+        .map_err(|cause| Failure::Refused(format!("cannot create {container}: {cause}")))?;
+    let refused = |refusal: Refusal| Failure::refused(&container, refusal);
+    let needs = plan.needs().map_err(refused)?;
+    let total = inputs.iter().map(|input| input.length).sum();
+    if let Some(free) = free_memory().filter(|&free| free < total) {
+        let why =
+            format!("its files have {total} bytes, which are held in memory, and {free} are free");
+        return Err(Failure::file("create", place.path, why));
+    }
+    let mut table = vec![0; needs.cells];
+    let mut image = Zeros::new(needs.image).map_err(|error| {
+        let why = format!("{} bytes of memory: {}", needs.image, reason(&error));
+        Failure::file("create", place.path, why)
+    })?;
+
+    let mut session = plan.open(&mut image, &mut table).map_err(refused)?;
+    let mut progress = Progress::new("stored", inputs.len(), total);
+    for (task, input) in (1..).zip(inputs) {
+        let size = session.chunk_size(task).map_err(refused)?;
+        input.read(size, &mut progress, |bytes| session.write(task, bytes).map_err(refused))?;
+        progress.file();
+    }
+    let bytes = session.close().map_err(refused)?;
+    drop(progress);
+    let mut progress = Progress::new("written", 0, bytes.len() as u64);
+    let made = place.make(|file| {
+        let mut file = Sparse::new(file, place.path);
+        file.put(bytes, &mut progress)?;
+        file.end()
+    });
+    made?.store()
+}
+
+#[cfg(test)]
+mod tests {
+    use super::*;
+    use lapurmihi::{Plan, BLOCKS, TASKS};
+    use std::ffi::OsString;
+
+    #[test]
+    fn the_help_names_the_librarys_limits() {
+        assert!(HELP.contains(&format!("at most {TASKS};")));
+        assert!(HELP.contains(&format!("1 to {BLOCKS} ")));
+        for (blocksize, taken) in [(256, false), (512, true), (4 << 20, true), (8 << 20, false)] {
+            assert_eq!(Plan::new(blocksize).task(0, 1).needs().is_ok(), taken);
+        }
+        assert!(HELP.contains("a power of two from 512 to 4M"));
+    }
+
+    #[test]
+    fn options_are_taken() {
+        let line = |line: &str| {
+            let words = line.split_whitespace().map(OsString::from);
+            Args::parse(words, COMMAND.options).unwrap()
+        };
+        let default =
+            Asked { blocksize: 4096, order: ByteOrder::Little, prefix: b"", blocks: None };
+        assert_eq!(asked(&line("c f")), Ok(default));
+        let all = Asked { blocksize: 512, order: ByteOrder::Big, prefix: b"run", blocks: Some(3) };
+        let args = line("--blocksize 512 --order big --prefix run --blocks 3");
+        assert_eq!(asked(&args), Ok(all));
+        assert!(asked(&line("--order up")).is_err());
+    }
+}

@@ -1,0 +1,133 @@
+//! Holds the reading of containers from files and from standard input.
+
+use crate::failure::Failure;
+use crate::files::Source;
+use crate::progress::Progress;
+use crate::system::standard_input;
+use crate::text::shown;
+use lapurmihi::{Container, OpenError, Refusal, CELLS};
+use std::ffi::{OsStr, OsString};
+use std::fs::{self, File};
+use std::io::{self, Read, Seek};
+
+/// The most bytes that are read or written at once, so that progress can be told between.
+pub const PIECE: usize = 1 << 20;
+
+/// The word for standard input.
+const STANDARD: &str = "-";
+
+/// A container as a message names it.
+pub fn name(word: &OsStr) -> String {
+    if word == STANDARD {
+        return "standard input".to_string();
+    }
+    shown(word)
+}
+
+/// Opens the container that a word of the command line names. What is no regular file, or not at its start, is read to its end.
+pub fn open(word: &OsStr) -> Result<Container<'static>, OpenError> {
+    if word == STANDARD {
+        let mut file = standard_input()?;
+        let regular = file.metadata()?.is_file() && file.stream_position()? == 0;
+        return if regular { Container::map(&file) } else { read(&mut *file) };
+    }
+    let mut file = File::open(word)?;
+    let about = file.metadata()?;
+    // A file without a length may be one that the system makes up as it is read.
+    if about.is_file() && about.len() > 0 {
+        return Container::map(&file);
+    }
+    read(&mut file)
+}
+
+/// The same, for a command that can do nothing without it.
+pub fn opened(word: &OsStr) -> Result<Container<'static>, Failure> {
+    open(word).map_err(|error| failure(word, &error))
+}
+
+/// The file of a container, which must not be replaced by what is made of it.
+pub fn source(word: &OsStr) -> Result<Source, Failure> {
+    let about = match word == STANDARD {
+        true => standard_input().and_then(|file| file.metadata()),
+        false => fs::metadata(word),
+    };
+    let about = about.map_err(|error| failure(word, &error.into()))?;
+    Ok(Source::new(name(word), &about))
+}
+
+/// Why a container cannot be opened, as it is told.
+pub fn failure(word: &OsStr, error: &OpenError) -> Failure {
+    match error {
+        OpenError::File(error) => Failure::system("read", &name(word), error),
+        OpenError::Refused(refusal) => Failure::refused(&name(word), *refusal),
+    }
+}
+
+/// What is wrong with containers that name standard input twice: it can be read once.
+pub fn named_twice(words: &[OsString]) -> Option<String> {
+    let twice = words.iter().filter(|word| *word == STANDARD).count() > 1;
+    twice.then(|| "standard input can be named once".to_string())
+}
+
+/// Reads a container to its end. What has no mark after a whole piece never has one, and may have no end either, like /dev/zero.
+fn read(file: &mut impl Read) -> Result<Container<'static>, OpenError> {
+    let mut progress = Progress::new("read", 0, 0);
+    let mut bytes = vec![];
+    loop {
+        let more = piece(file, &mut bytes)?;
+        if more < PIECE {
+            return Ok(Container::from_bytes(bytes)?);
+        }
+        if bytes.len() == more {
+            let marked = Container::load(&bytes, &mut [0; CELLS]).map(drop);
+            marked.or_else(|refusal| match refusal {
+                Refusal::NoMark => Err(refusal),
+                _ => Ok(()),
+            })?;
+        }
+        progress.bytes(more);
+    }
+}
+
+/// Reads a piece behind the bytes, with memory that is there for it and a little more, as the end of a file is looked for.
+fn piece(file: &mut impl Read, bytes: &mut Vec<u8>) -> io::Result<usize> {
+    let room = PIECE + 64;
+    bytes.try_reserve(room).or_else(|_| bytes.try_reserve_exact(room))?;
+    file.by_ref().take(PIECE as u64).read_to_end(bytes)
+}
+
+#[cfg(test)]
+mod tests {
+    use super::*;
+
+    const SAMPLE: &[u8] = include_bytes!("../../examples/two-tasks.sion");
+
+    fn refusal(file: &mut impl Read) -> Option<Refusal> {
+        match read(file) {
+            Err(OpenError::Refused(refusal)) => Some(refusal),
+            other => panic!("{other:?}"),
+        }
+    }
+
+    #[test]
+    fn what_has_no_end_is_refused_if_it_has_no_mark() {
+        assert_eq!(refusal(&mut io::repeat(0)), Some(Refusal::NoMark));
+        assert_eq!(refusal(&mut &b"sio"[..]), Some(Refusal::NoMark));
+    }
+
+    #[test]
+    fn a_container_is_read_to_its_end() {
+        let container = read(&mut SAMPLE.chain(io::repeat(7).take(3 * PIECE as u64))).unwrap();
+        assert_eq!(container.image().len(), SAMPLE.len() + 3 * PIECE);
+        let mut cut = SAMPLE[..100].chain(io::empty());
+        assert_eq!(refusal(&mut cut), Some(Refusal::ShortMeta1));
+    }
+
+    #[test]
+    fn standard_input_is_named_once() {
+        let words = |line: &str| line.split(' ').map(OsString::from).collect::<Vec<_>>();
+        assert_eq!(named_twice(&words("a - b")), None);
+        assert!(named_twice(&words("- a -")).is_some());
+        assert_eq!(name(OsStr::new("-")), "standard input");
+    }
+}
