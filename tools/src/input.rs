@@ -24,20 +24,22 @@ pub fn name(word: &OsStr) -> String {
     shown(word)
 }
 
-/// Opens the container that a word of the command line names. What is no regular file, or not at its start, is read to its end.
+/// Opens the container that a word of the command line names.
 pub fn open(word: &OsStr) -> Result<Container<'static>, OpenError> {
-    if word == STANDARD {
-        let mut file = standard_input()?;
-        let regular = file.metadata()?.is_file() && file.stream_position()? == 0;
-        return if regular { Container::map(&file) } else { read(&mut *file) };
+    match word == STANDARD {
+        true => mapped_or_read(&mut *standard_input()?),
+        false => mapped_or_read(&mut File::open(word)?),
     }
-    let mut file = File::open(word)?;
+}
+
+/// What is no regular file, or not at its start, is read to its end. So is a file without a length: it may be one that the system makes up
+/// as it is read.
+fn mapped_or_read(file: &mut File) -> Result<Container<'static>, OpenError> {
     let about = file.metadata()?;
-    // A file without a length may be one that the system makes up as it is read.
-    if about.is_file() && about.len() > 0 {
-        return Container::map(&file);
+    if about.is_file() && about.len() > 0 && file.stream_position()? == 0 {
+        return Container::map(file);
     }
-    read(&mut file)
+    read(file)
 }
 
 /// The same, for a command that can do nothing without it.

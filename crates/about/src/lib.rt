@@ -38,6 +38,7 @@ pub fn whole_length(l: Loaded, lists: &[u64; LISTS], image: &[u8], table: &[i64]
     ByteCount { refusal: 0, bytes }
 }
 
+// How many bytes come before the first zero; all of them, where none is zero.
 fn before_zero(bytes: &[u8]) -> usize
     ensures { λ r. ⌜ r ≡ beforeZero (now (bytes .entry)) ⌝ }
     ensures { λ r. ⌜ r ≤ length (now (bytes .entry)) ⌝ }

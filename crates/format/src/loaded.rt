@@ -10,7 +10,7 @@ pub struct Loaded {
     pub closed: u32,
 }
 
-// What loading answers. In every answer `refusal` is 0 or a number of `meta::refusal`.
+// What loading answers. In every answer `refusal` is 0 or a number of the module `refusal`.
 #[repr(C)]
 pub struct LoadAnswer {
     pub loaded: Loaded,
@@ -18,7 +18,7 @@ pub struct LoadAnswer {
     pub refusal: u32,
 }
 
-// Where the written bytes of one chunk lie in the image.
+// Where the written bytes of one chunk, or the filename prefix, lie in the image.
 #[repr(C)]
 pub struct Part {
     pub refusal: u32,
@@ -26,7 +26,7 @@ pub struct Part {
     pub length: u64,
 }
 
-// What a copying read answers, with the bytes copied, and a task's total.
+// What a copying read answers, with the bytes copied, a task's total, and the container's length.
 #[repr(C)]
 pub struct ByteCount {
     pub refusal: u32,

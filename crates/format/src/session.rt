@@ -1,5 +1,5 @@
 // The record of a session, what an opening is given, and what a session's entries answer. A record is its numbers, by value, and its lists,
-// `[u64; LISTS]` of `meta::head`. In every answer `refusal` is 0 or a number of `meta::refusal`.
+// `[u64; LISTS]` of `head`. In every answer `refusal` is 0 or a number of the module `refusal`.
 use crate::head::Head;
 use crate::head::LISTS;
 

@@ -1,5 +1,5 @@
+-- The end of META2, over the record's own sizes.
 use borrow.Author.Needs.{needs}
-use native.Mathlib.Omega.{arith}
 use Rattle.format.specs.Record.{endAt}
 use Rattle.about.proofs.end_of.Statement.{statement}
 use Rattle.about.proofs.end_of.Tie as tie
