@@ -16,22 +16,27 @@
 
 enum { STATIONS = 3 };
 
-/* The plan: its numbers, each station's rank, and the bytes that a chunk of it holds. */
+/* The plan: its numbers, each station's rank, and the bytes that it requests for a chunk; rounded up to the blocksize, each chunk holds 512. */
 static const struct lapur_plan plan = {.order = LAPUR_BIG, .version = 1, .patch = 7, .blocksize = 512, .planned = 5};
 static const uint64_t ranks[STATIONS] = {40, 7, 12};
-static const uint64_t sizes[STATIONS] = {32, 48, 96};
+static const uint64_t sizes[STATIONS] = {500, 48, 96};
 static const uint8_t prefix[] = "railway/night";
+
+/* A slow train: 150 bytes. Three of them fit in a chunk as one request, and four do not. */
+#define SLOW(time) time " to Bilbao, platform 1, calls at " \
+    "Lasarte, Usurbil, Orio, Zarautz, Getaria, Zumaia, Deba, Mendaro, Elgoibar, Eibar, Ermua, Durango, Lemoa, Bilbao\n"
 
 static const struct { uint64_t task; const char *line; } timetable[] = {
     {1, "22:10 to Irun, platform 1\n"},
     {2, "22:24 from Zumaia, platform 2\n"},
     {1, "22:41 to Hendaia, platform 3\n"},
     {3, "23:05 goods, through\n"},
-    {2, "23:18 to Bilbao, platform 1, calls at every station\n"},
+    {1, SLOW("05:18") SLOW("05:48") SLOW("06:18") SLOW("06:48")},
+    {1, SLOW("05:18") SLOW("05:48") SLOW("06:18")},
+    {1, SLOW("06:48")},
     {2, "23:18 to Bilbao, platform 1\n"},
-    {1, "23:52 from Donostia, platform 1\n"},
     {3, "00:30 track 2 closed until 04:00\n"},
-    {1, "05:02 to Irun, platform 1\n"},
+    {1, "07:02 to Irun, platform 1\n"},
 };
 
 static void fail(const char *what)
@@ -53,7 +58,7 @@ static void save(const char *name)
     struct lapur_needed needed = lapur_needs(plan, ranks, STATIONS, sizes, STATIONS, prefix, sizeof prefix - 1);
     check("lapur_needs", needed.refusal);
     size_t length = (size_t)needed.image, cells = (size_t)needed.cells;
-    uint8_t *image = calloc(length, sizeof *image); /* cleared: the gaps between chunks go to the file too */
+    uint8_t *image = calloc(length, sizeof *image); /* cleared: the unused room of the chunks goes to the file too */
     int64_t *table = malloc(cells * sizeof *table);
     if (image == NULL || table == NULL)
         fail("memory");
@@ -66,9 +71,13 @@ static void save(const char *name)
     struct lapur_session session = opened.session;
     for (size_t i = 0; i < sizeof timetable / sizeof *timetable; i++) {
         const char *line = timetable[i].line;
-        uint32_t refusal = lapur_write(&session, image, length, table, cells, timetable[i].task, (const uint8_t *)line, strlen(line));
+        uint64_t task = timetable[i].task;
+        struct lapur_byte_count holds = lapur_chunk_size(sizes[task - 1], plan.blocksize);
+        check("lapur_chunk_size", holds.refusal);
+        uint32_t refusal = lapur_write(&session, image, length, table, cells, task, (const uint8_t *)line, strlen(line));
         if (refusal == LAPUR_TOO_LONG) /* nothing has changed, and the session goes on */
-            printf("refused with %" PRIu32 ", %s: %s", refusal, lapur_sentence(refusal), line);
+            printf("%zu bytes for a chunk of %" PRIu64 ": refused with %" PRIu32 ", %s\n", strlen(line), holds.bytes, refusal,
+                lapur_sentence(refusal));
         else
             check("lapur_write", refusal);
     }

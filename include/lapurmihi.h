@@ -1,9 +1,13 @@
 /*
  * Opens, fills, closes, checks and reads one container in the SIONlib file format, over memory that the caller lends.
  *
- * A container holds the bytes of 1 to 64 tasks. Each task has a rank and a chunk size of its own, and its bytes stand in chunks: in the
- * image lie chunk 1 of every task, then chunk 2 of every task, and so on, behind a first metadata block, META1, and before a second,
+ * A container holds the bytes of 1 to 64 tasks. Each task has a rank and a requested size of its own, and its bytes stand in chunks: in
+ * the image lie chunk 1 of every task, then chunk 2 of every task, and so on, behind a first metadata block, META1, and before a second,
  * META2. Tasks and chunks are counted from 1; offsets in the image and places in a task's stream are counted from 0.
+ *
+ * The requested size is what the plan says and what META1 stores, 1 to 1,073,741,824 bytes. The chunk size is what a chunk of the task
+ * holds: the requested size, rounded up to a multiple of the blocksize. lapur_chunk_size gives it. A chunk may be filled to its last
+ * byte: nothing lies between it and the next chunk.
  *
  * A session makes a container:
  *
@@ -24,8 +28,8 @@
  * Answers. Every call is accepted, with the number 0, or refused with the number of the first of its tests that fails. A refused call
  * changes nothing: no byte of the image or of an output, no cell of the table, nothing of a lent record. An accepted load says that the
  * container's structure is whole, not that its bytes are the ones that were sent: the format has no checksum, so a changed byte in a
- * chunk, a gap, the padding, the two version numbers, the flags, the prefix, a rank, a requested size or a written length may pass. Send a checksum
- * such as sha256sum's beside the file.
+ * chunk, the padding, the two version numbers, the flags, the prefix, a rank, a requested size or a written length may pass. Send a
+ * checksum such as sha256sum's beside the file.
  *
  * What may come in. Any values at all: records, images, tables and numbers are tested by each call, and nothing has to hold beforehand.
  * Only these things about memory are assumed and not tested:
@@ -37,12 +41,13 @@
  *
  * Memory. All of it is the caller's. The library allocates nothing and keeps nothing between calls, so a record is plain numbers that may
  * be copied, and calls on different memory may run at the same time. An image or a table may be longer than it needs to be: what follows
- * is not looked at and not changed. Bytes of the image that no call stores, such as the gaps that chunks end in, stay what they were, and
+ * is not looked at and not changed. Bytes of the image that no call stores, such as the unused room of a chunk, stay what they were, and
  * they are part of the container: a container that leaves the caller's hands wants an image that was cleared first.
  *
- * What is proved. The library has the functions that are only declared here, and each of them is proved: lapur_needs, lapur_open,
- * lapur_load, lapur_version, and those whose names end in _lent. lapur_write, lapur_close, lapur_chunk, lapur_total, lapur_read,
- * lapur_length and lapur_prefix are a few lines of C over the function of their name with _lent.
+ * What is proved. The library has the functions that are only declared here, and each of them is proved: lapur_version,
+ * lapur_chunk_size, lapur_needs, lapur_open, lapur_load, and those whose names end in _lent. lapur_write, lapur_close, lapur_chunk,
+ * lapur_total, lapur_read, lapur_length and lapur_prefix are a few lines of C over the function of their name with _lent;
+ * lapur_sentence, lapur_session_lists and lapur_loaded_lists are C alone.
  *
  * Link with liblapurmihi: `tools/install` puts the library, this header and a file for pkg-config where compilers find them, and
  * `tools/library` builds target/staticlib/liblapurmihi.a in the repository.
@@ -58,8 +63,8 @@ extern "C" {
 #endif
 
 /* The version of this header: 10,000 times its first number, 100 times its second, and its third. */
-#define LAPUR_VERSION 100
-#define LAPUR_VERSION_TEXT "0.1.0"
+#define LAPUR_VERSION 200
+#define LAPUR_VERSION_TEXT "0.2.0"
 
 /* The most tasks of a container, and the entries that a record has for them. */
 #define LAPUR_TASKS 64
@@ -186,7 +191,7 @@ struct lapur_session_numbers {
 struct lapur_session {
     struct lapur_session_numbers numbers;
     uint64_t ranks[LAPUR_TASKS];           /* each task's global rank, 0 to 2,147,483,647, all different, in any order */
-    uint64_t sizes[LAPUR_TASKS];           /* each task's requested size, the most bytes that a chunk of it holds, 1 to 1,073,741,824 */
+    uint64_t sizes[LAPUR_TASKS];           /* each task's requested size, 1 to 1,073,741,824; lapur_chunk_size says what a chunk holds */
     uint64_t counts[LAPUR_TASKS];          /* the chunks that each task has begun */
 };
 
@@ -205,7 +210,7 @@ struct lapur_loaded_numbers {
 struct lapur_loaded {
     struct lapur_loaded_numbers numbers;
     uint64_t ranks[LAPUR_TASKS];           /* each task's global rank */
-    uint64_t sizes[LAPUR_TASKS];           /* each task's requested size */
+    uint64_t sizes[LAPUR_TASKS];           /* each task's requested size, as in a session's record */
     uint64_t counts[LAPUR_TASKS];          /* the chunks that each task used */
 };
 
@@ -261,10 +266,10 @@ struct lapur_part {
     uint64_t length;
 };
 
-/* What lapur_total, lapur_read and lapur_length answer. */
+/* What lapur_chunk_size, lapur_total, lapur_read and lapur_length answer. */
 struct lapur_byte_count {
     uint32_t refusal;
-    uint64_t bytes;                        /* the bytes of the task, the bytes copied, or the bytes of the container */
+    uint64_t bytes;                        /* what a chunk holds, the bytes of the task, the bytes copied, or the bytes of the container */
 };
 
 /* The sizes that these records have in the library: a compiler that is told to lay them out otherwise stops here. */
@@ -307,8 +312,18 @@ static inline const uint64_t *lapur_loaded_lists(const struct lapur_loaded *load
 uint32_t lapur_version(void);
 
 /*
- * What an opening with this plan needs. The number of tasks is the length of both lists; `prefix` is the filename prefix, at most 1024
- * bytes, with no zero at its end. The version and the patch level of the plan do not matter.
+ * Counts the bytes that a chunk of a task holds, which are also the most that a request to it may have: the chunk size, from the task's
+ * requested size and the blocksize of the plan or the record.
+ *
+ * Tests: 5, 9.
+ * Refused: the count is 0.
+ */
+struct lapur_byte_count lapur_chunk_size(
+    uint64_t size, uint32_t blocksize);
+
+/*
+ * What an opening with this plan needs. The number of tasks is the length of both lists; `sizes` are the requested sizes; `prefix` is the
+ * filename prefix, at most 1024 bytes, with no zero at its end. The version and the patch level of the plan do not matter.
  *
  * Tests: 2, 5, 6, 21, 8, 9, 20.
  * Refused: both lengths are 0.
@@ -344,7 +359,8 @@ uint32_t lapur_write_lent(
 
 /*
  * Writes bytes to a task: straight after its last bytes if they fit in the chunk in use, else to the start of its next chunk. They are
- * never split. An empty request changes nothing.
+ * never split. What fits is told by the chunk size, not by the requested size: a request may have as many bytes as lapur_chunk_size
+ * counts, and one byte more is refused with 15. An empty request changes nothing.
  *
  * Tests: 17, 18, 19, 14, then an empty request is accepted, 15, 16.
  * Changes: those bytes of the image, the chunk's cell and the task's count in the record. Refused: nothing, and the session goes on.

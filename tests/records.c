@@ -1,6 +1,7 @@
 /*
  * Holds the header's inline functions to the whole record that they are given: with any one of its numbers or entries spoilt a call is refused
- * with 17 and changes nothing, and what is not judged comes through a session as it was. It is C, and C++ too; tests/example runs it as both.
+ * with 17 and changes nothing, and what is not judged comes through a session as it was. What lapur_chunk_size answers is held to what a write
+ * takes, and to its numbers at the bounds. It is C, and C++ too; tests/example runs it as both.
  */
 #include <stdio.h>
 #include <stdlib.h>
@@ -13,9 +14,9 @@ enum { TASKS = 3, K = 2, CELLS = TASKS * K, BYTES = 16384 };
 static const uint64_t ranks[TASKS] = {5, 0, 9}, sizes[TASKS] = {100, 600, 512};
 static const uint8_t line[] = "22:10 to Irun, platform 1\n";
 
-/* What is written: so many lines to each task, of which so many bytes stand in its first chunk. */
-enum { LINE = sizeof line - 1 };
-static const uint64_t lines[TASKS] = {4, 0, 1}, first[TASKS] = {3 * LINE, 0, LINE}, begun[TASKS] = {2, 0, 1};
+/* What is written: so many lines to each task, of which so many bytes stand in its first chunk. Task 1 has one more than its chunk holds. */
+enum { LINE = sizeof line - 1, FIT = 512 / LINE, MOST = FIT + 1 };
+static const uint64_t lines[TASKS] = {MOST, 0, 1}, first[TASKS] = {FIT * LINE, 0, LINE}, begun[TASKS] = {2, 0, 1};
 
 /* A session or a load with all its memory. */
 struct session { struct lapur_session record; uint8_t image[BYTES]; int64_t table[CELLS]; };
@@ -181,7 +182,7 @@ static void read_it(struct load *l, const struct session *s)
     l->record.numbers.patch = INT32_MAX;
     l->record.ranks[TASKS] = l->record.sizes[TASKS] = l->record.counts[LAPUR_TASKS - 1] = UINT64_MAX;
     for (uint64_t task = 1; task <= TASKS; task++) {
-        uint8_t out[4 * LINE + 1];
+        uint8_t out[MOST * LINE + 1];
         const struct lapur_loaded *record = &l->record;
         struct lapur_byte_count total = lapur_total(record, l->image, BYTES, l->table, CELLS, task);
         struct lapur_byte_count copied = lapur_read(record, l->image, BYTES, l->table, CELLS, task, 0, out, sizeof out);
@@ -196,6 +197,53 @@ static void read_it(struct load *l, const struct session *s)
     }
 }
 
+/* As many bytes as lapur_chunk_size counts fill the one chunk, to its last byte, and a request of one byte more is refused at any moment. */
+static int chunk_sizes(void)
+{
+    static const struct { uint64_t size; uint32_t blocksize; uint64_t holds; } cases[] = {
+        {1, 512, 512}, {500, 512, 512}, {511, 512, 512}, {512, 512, 512}, {513, 512, 1024}, {600, 512, 1024}, {1024, 512, 1024},
+        {513, 4096, 4096}, {4096, 4096, 4096}, {4097, 4096, 8192},
+    };
+    static const uint64_t rank = 0;
+    static uint8_t bytes[8192 + 1];
+    static struct session s;
+    int which, count = sizeof cases / sizeof *cases;
+    for (which = 0; which < count; which++) {
+        const struct lapur_plan plan = {LAPUR_LITTLE, 0, 0, cases[which].blocksize, 1};
+        uint64_t holds = cases[which].holds;
+        struct lapur_byte_count counted = lapur_chunk_size(cases[which].size, cases[which].blocksize);
+        hold(counted.refusal == 0 && counted.bytes == holds, "what a chunk holds", which);
+        struct lapur_opened opened = lapur_open(plan, &rank, 1, &cases[which].size, 1, bytes, 0, s.image, BYTES, s.table, CELLS);
+        hold(opened.refusal == 0, "an opening for one chunk", which);
+        const struct { uint64_t length; uint32_t refusal; } requests[] = {
+            {holds + 1, LAPUR_TOO_LONG}, {holds - 1, 0}, {2, LAPUR_NO_CHUNK_LEFT}, {1, 0}, {1, LAPUR_NO_CHUNK_LEFT}, {holds + 1, LAPUR_TOO_LONG},
+        };
+        for (size_t i = 0; i < sizeof requests / sizeof *requests; i++)
+            hold(lapur_write(&opened.session, s.image, BYTES, s.table, CELLS, 1, bytes, (size_t)requests[i].length) == requests[i].refusal,
+                "a request for one chunk", which);
+    }
+    return count;
+}
+
+/* Chunk sizes for which no session is opened here: the blocksize is judged first, and what is refused has 0 bytes. */
+static int bounds(void)
+{
+    static const struct { uint64_t size; uint32_t blocksize, refusal; uint64_t bytes; } cases[] = {
+        {1, 4194304, 0, 4194304}, {1073741823, 4194304, 0, 1073741824}, {1073741824, 512, 0, 1073741824},
+        {1, 0, LAPUR_BAD_BLOCKSIZE, 0}, {1, 256, LAPUR_BAD_BLOCKSIZE, 0}, {1, 511, LAPUR_BAD_BLOCKSIZE, 0}, {1, 513, LAPUR_BAD_BLOCKSIZE, 0},
+        {1, 768, LAPUR_BAD_BLOCKSIZE, 0}, {1, 8388608, LAPUR_BAD_BLOCKSIZE, 0}, {1, UINT32_MAX, LAPUR_BAD_BLOCKSIZE, 0},
+        {0, 512, LAPUR_BAD_SIZE, 0}, {0, 4194304, LAPUR_BAD_SIZE, 0}, {1073741825, 512, LAPUR_BAD_SIZE, 0},
+        {UINT64_MAX, 4194304, LAPUR_BAD_SIZE, 0}, {0, 0, LAPUR_BAD_BLOCKSIZE, 0}, {UINT64_MAX, UINT32_MAX, LAPUR_BAD_BLOCKSIZE, 0},
+    };
+    int which, count = sizeof cases / sizeof *cases;
+    for (which = 0; which < count; which++) {
+        struct lapur_byte_count counted = lapur_chunk_size(cases[which].size, cases[which].blocksize);
+        hold(counted.refusal == cases[which].refusal, "the answer for a chunk size at a bound", which);
+        hold(counted.bytes == cases[which].bytes, "a chunk size at a bound", which);
+    }
+    return count;
+}
+
 int main(void)
 {
     static struct session session;
@@ -208,6 +256,6 @@ int main(void)
         read_it(&load, &session);
         spoilt += refused_reads(&load);
     }
-    printf("%d spoilt records\n", spoilt);
+    printf("%d spoilt records, %d chunk sizes and %d at bounds\n", spoilt, chunk_sizes(), bounds());
     return 0;
 }

@@ -1,6 +1,6 @@
 //! Holds the making of sound containers from plans.
 
-use reference::{close, open, write, Container, Layout, Order};
+use reference::{capacity, close, open, write, Container, Layout, Order, Session};
 
 /// What an opening is given, and the byte the image is filled with before it.
 #[derive(Clone)]
@@ -26,8 +26,37 @@ impl Plan {
         Plan { order, version, patch, blocksize, ranks, sizes, prefix, k, background: 0 }
     }
 
+    /// What a chunk of a task, counted from 0, holds.
+    pub fn capacity(&self, task: usize) -> u64 {
+        capacity(self.blocksize, self.sizes[task])
+    }
+
     /// The closed container after the given requests, of which refused ones count for nothing.
     pub fn build(&self, requests: &[(u64, Vec<u8>)]) -> Container {
+        self.filled(|session, image, table| {
+            for (task, bytes) in requests {
+                let _ = write(session, image, table, *task, bytes);
+            }
+        })
+    }
+
+    /// The closed container that has these chunks, each begun for its own bytes, whatever was left of the one before; there is room for all.
+    pub fn of_chunks(&self, chunks: &[(u64, Vec<u8>)]) -> Container {
+        let (layout, n) = (Layout::new(self.blocksize, &self.sizes), self.sizes.len());
+        self.filled(|session, image, table| {
+            for (task, bytes) in chunks {
+                let task = *task as usize - 1;
+                let chunk = session.head.counts[task];
+                let start = layout.chunk(task, chunk) as usize;
+                image[start..start + bytes.len()].copy_from_slice(bytes);
+                table[chunk as usize * n + task] = bytes.len() as i64;
+                session.head.counts[task] += 1;
+            }
+        })
+    }
+
+    /// The container of a session that is opened, filled and closed.
+    fn filled(&self, fill: impl FnOnce(&mut Session, &mut [u8], &mut [i64])) -> Container {
         let (n, k) = (self.sizes.len(), self.k);
         let need = Layout::new(self.blocksize, &self.sizes).end(u64::from(k));
         let (mut image, mut table) =
@@ -39,9 +68,7 @@ impl Plan {
             number, version, patch, blocksize, ranks, sizes, prefix, k, &mut image, &mut table,
         );
         let mut session = opened.expect("plans are sound");
-        for (task, bytes) in requests {
-            let _ = write(&mut session, &mut image, &mut table, *task, bytes);
-        }
+        fill(&mut session, &mut image, &mut table);
         let length = close(&mut session, &mut image, &table).expect("the session is open");
         image.truncate(length as usize);
         Container::new(image, self.order, n)

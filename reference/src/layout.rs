@@ -1,4 +1,6 @@
-//! Holds the numbers that bound the work, the rules built on them, and where chunks and META2 lie.
+//! Holds the numbers that bound the work, the rules built on them, what a chunk holds, and where chunks and META2 lie.
+
+use crate::demand;
 
 /// The four bytes every container starts with.
 pub const MARK: [u8; 4] = *b"sion";
@@ -45,6 +47,18 @@ pub(crate) fn ranks_ok(ranks: &[u64]) -> bool {
 
 pub(crate) fn sizes_ok(sizes: &[u64]) -> bool {
     sizes.iter().all(|size| (1..=MAX_SIZE).contains(size))
+}
+
+/// What a chunk holds: its extended size, which is the requested size rounded up to a multiple of blocksize.
+pub fn capacity(blocksize: u32, size: u64) -> u64 {
+    round_up(size, blocksize)
+}
+
+/// What a chunk holds, by a requested size and a blocksize of any value; tests in the order of an opening, 5, 9.
+pub fn chunk_size(size: u64, blocksize: u32) -> Result<u64, u32> {
+    demand(blocksize_ok(blocksize), 5)?;
+    demand(sizes_ok(&[size]), 9)?;
+    Ok(capacity(blocksize, size))
 }
 
 /// The places that follow from blocksize and requested sizes; numbers beyond the rules saturate.

@@ -1,5 +1,5 @@
-//! Holds the second implementation of document 01: opening, filling, closing, loading and reading one container; and for tests a generator
-//! and containers whose fields are set by name.
+//! Holds the second implementation of document 01, as document 02 changes it: opening, filling, closing, loading and reading one container;
+//! and for tests a generator and containers whose fields are set by name.
 
 mod bytes;
 mod container;
@@ -16,7 +16,7 @@ mod tests;
 pub use bytes::Order;
 pub use container::{Container, Field};
 pub use generator::Rng;
-pub use layout::{meta1_end, Layout, FORMAT, MARK};
+pub use layout::{capacity, chunk_size, meta1_end, Layout, FORMAT, MARK};
 pub use load::load;
 pub use read::{chunk, length, prefix, read, total};
 pub use record::{Head, Loaded, Session};

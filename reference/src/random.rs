@@ -1,7 +1,7 @@
 //! Holds the random containers: sound ones of random plans, and damaged ones, all fixed by the seed.
 
 use crate::forge::Plan;
-use reference::{Container, Field, Order, Rng};
+use reference::{capacity, Container, Field, Order, Rng};
 
 /// The bounds of the rules and of the number formats; fields are set to these or one more or less.
 const BOUNDS: [i64; 12] =
@@ -18,7 +18,7 @@ fn container(rng: &mut Rng) -> Vec<u8> {
         return noise(rng);
     }
     let sound = sound(rng);
-    let damaged = match rng.below(20) {
+    let damaged = match rng.below(22) {
         0..=4 => sound,
         5 => extended(rng, sound),
         6 => truncated(rng, sound),
@@ -31,6 +31,7 @@ fn container(rng: &mut Rng) -> Vec<u8> {
         16 => moved(rng, sound),
         17 => not_closed(rng, sound),
         18 => sound.grouped_by_task(),
+        19 | 20 => value_set(rng, sound),
         _ => {
             let field = any_field(rng, &sound);
             sound.swapped(field)
@@ -47,8 +48,13 @@ fn noise(rng: &mut Rng) -> Vec<u8> {
     [start, &rng.bytes(rest)].concat()
 }
 
+/// A container of requests, or of chunks that need not be filled by the write rule.
 fn sound(rng: &mut Rng) -> Container {
     let plan = plan(rng);
+    if rng.one_in(3) {
+        let chunks = chunks(rng, &plan);
+        return plan.of_chunks(&chunks);
+    }
     let most = 2 * plan.sizes.len() * plan.k as usize + 1;
     let requests: Vec<(u64, Vec<u8>)> = (0..rng.below(most)).map(|_| request(rng, &plan)).collect();
     plan.build(&requests)
@@ -103,15 +109,37 @@ fn ranks(rng: &mut Rng, n: usize) -> Vec<u64> {
 /// A request that is mostly in order: sometimes of no such task, empty or too long.
 fn request(rng: &mut Rng, plan: &Plan) -> (u64, Vec<u8>) {
     let n = plan.sizes.len();
-    let task = if rng.one_in(20) { rng.pick(&[0, n + 1, usize::MAX]) } else { 1 + rng.below(n) };
-    let size = plan.sizes.get(task.wrapping_sub(1)).map_or(1, |&size| size as usize);
+    if rng.one_in(20) {
+        return (rng.pick(&[0, n as u64 + 1, u64::MAX]), rng.bytes(1));
+    }
+    let task = rng.below(n);
     let length = match rng.below(8) {
-        0 => rng.pick(&[0, size + 1]),
-        1 => size,
-        2 => 1,
-        _ => rng.below(size + 1),
+        0 => 0,
+        1 | 2 => near(rng, plan.blocksize, plan.sizes[task]),
+        3 => 1,
+        _ => rng.below(plan.capacity(task) as usize + 1) as u64,
     };
-    (task as u64, rng.bytes(length))
+    (task as u64 + 1, rng.bytes(length as usize))
+}
+
+/// Some chunks of every task, each filled in any measure, often near its requested size or what it holds.
+fn chunks(rng: &mut Rng, plan: &Plan) -> Vec<(u64, Vec<u8>)> {
+    let mut chunks = Vec::new();
+    for (task, &size) in plan.sizes.iter().enumerate() {
+        let holds = plan.capacity(task);
+        for _ in 0..rng.below(plan.k as usize + 1) {
+            let any = rng.below(holds as usize + 1) as u64;
+            let bound = near(rng, plan.blocksize, size).min(holds);
+            let length = rng.pick(&[0, any, bound, bound]);
+            chunks.push((task as u64 + 1, rng.bytes(length as usize)));
+        }
+    }
+    chunks
+}
+
+/// The requested size or what a chunk of it holds, or one more or less.
+fn near(rng: &mut Rng, blocksize: u32, size: u64) -> u64 {
+    rng.pick(&[size, capacity(blocksize, size)]) + rng.pick(&[0, 1, 2]) - 1
 }
 
 /// Bytes behind META2, now and then up to the longest input or one past it.
@@ -152,6 +180,15 @@ fn field_set(rng: &mut Rng, sound: Container) -> Container {
         _ => (sound.get(neighbour(&sound, field)), [0, 0, 1]),
     };
     sound.with(field, value.wrapping_add(rng.pick(&steps)))
+}
+
+/// The value of one chunk, in use if the task has any, near the task's requested size or what the chunk holds.
+fn value_set(rng: &mut Rng, sound: Container) -> Container {
+    let task = rng.below(sound.n);
+    let chunk = rng.below(sound.get(Field::Count(task)) as usize);
+    let (blocksize, size) = (sound.get(Field::Blocksize), sound.get(Field::Size(task)));
+    let value = near(rng, blocksize as u32, size as u64);
+    sound.with(Field::Cell(chunk, task), value as i64)
 }
 
 fn any_field(rng: &mut Rng, sound: &Container) -> Field {
@@ -203,6 +240,26 @@ fn moved(rng: &mut Rng, sound: Container) -> Container {
     } else {
         moved
     }
+}
+
+#[test]
+fn values_on_both_sides_of_size_and_capacity_come_up() {
+    let (mut rng, mut seen) = (Rng::new(7), [0; 6]);
+    for _ in 0..300 {
+        let sound = sound(&mut rng);
+        let changed = value_set(&mut rng, sound);
+        for at in 0..changed.n * changed.maxchunks {
+            let (chunk, task) = (at / changed.n, at % changed.n);
+            let [value, size] =
+                [Field::Cell(chunk, task), Field::Size(task)].map(|f| changed.get(f));
+            let holds = capacity(changed.get(Field::Blocksize) as u32, size as u64) as i64;
+            let bounds = [size - 1, size, size + 1, holds - 1, holds, holds + 1];
+            if let Some(at) = bounds.iter().position(|&bound| size + 2 < holds && bound == value) {
+                seen[at] += 1;
+            }
+        }
+    }
+    assert!(seen.iter().all(|&times| times > 10), "{seen:?}");
 }
 
 #[test]

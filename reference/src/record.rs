@@ -1,7 +1,7 @@
 //! Holds the two kinds of record and the tests that every later call makes of them: 17, 18, 19 and 14.
 
 use crate::demand;
-use crate::layout::{blocksize_ok, ranks_ok, sizes_ok, Layout, MAX_CHUNKS, MAX_TASKS};
+use crate::layout::{blocksize_ok, capacity, ranks_ok, sizes_ok, Layout, MAX_CHUNKS, MAX_TASKS};
 use crate::Order;
 
 /// What both kinds of record hold; entries past n are not judged.
@@ -59,6 +59,11 @@ impl Head {
         Layout::new(self.blocksize, &self.sizes[..self.tasks()])
     }
 
+    /// What a chunk of a task, counted from 0, holds.
+    pub fn capacity(&self, task: usize) -> u64 {
+        capacity(self.blocksize, self.sizes[task])
+    }
+
     /// The greatest count.
     pub(crate) fn greatest(&self) -> u64 {
         self.counts[..self.tasks()].iter().copied().max().unwrap_or(0)
@@ -66,9 +71,9 @@ impl Head {
 
     /// META2's rule for the row of one chunk, counted from 1.
     pub(crate) fn row_ok(&self, chunk: u64, row: impl Iterator<Item = i64>) -> bool {
-        row.zip(&self.counts).zip(&self.sizes).all(|((value, &count), &size)| {
-            if chunk <= count {
-                u64::try_from(value).is_ok_and(|written| written <= size)
+        row.enumerate().all(|(task, value)| {
+            if chunk <= self.counts[task] {
+                u64::try_from(value).is_ok_and(|written| written <= self.capacity(task))
             } else {
                 value == -1
             }

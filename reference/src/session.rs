@@ -70,7 +70,7 @@ pub fn write(
         return Ok(());
     }
     let length = bytes.len() as u64;
-    demand(length <= session.head.sizes[task], 15)?;
+    demand(length <= session.head.capacity(task), 15)?;
 
     let (chunk, used) = room(session, table, task, length).ok_or(16u32)?;
     let start = (session.head.layout().chunk(task, chunk) + used) as usize;
@@ -85,7 +85,7 @@ fn room(session: &Session, table: &[i64], task: usize, length: u64) -> Option<(u
     let count = session.head.counts[task];
     if let Some(last) = count.checked_sub(1) {
         let used = table[last as usize * session.head.tasks() + task] as u64;
-        if used + length <= session.head.sizes[task] {
+        if used + length <= session.head.capacity(task) {
             return Some((last, used));
         }
     }

@@ -24,7 +24,7 @@ struct Line {
 }
 
 impl Tally {
-    /// A tally at opening; each task gives its chunk size and its K chunk starts, and n is their number.
+    /// A tally at opening; each task gives its chunk size, which is what its chunk holds, and its K chunk starts, and n is their number.
     pub fn new(k: u32, tasks: impl IntoIterator<Item = (u64, Vec<u64>)>) -> Tally {
         let line = |(c, starts)| Line { c, starts, u: 0, w: 0 };
         Tally { k: u64::from(k), tasks: tasks.into_iter().map(line).collect() }

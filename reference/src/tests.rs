@@ -1,25 +1,48 @@
-//! Holds the numbers to check by of document 01 and tests of hostile records.
+//! Holds the papers' numbers to check by and tests of hostile records.
 
 use crate::*;
 
 const SIZES: [u64; 2] = [500, 600];
 
-fn session(order: u32, sizes: &[u64], k: u32) -> (Session, Vec<u8>, Vec<i64>) {
+/// A session that has just been opened, with its image and its table.
+type Opened = (Session, Vec<u8>, Vec<i64>);
+
+fn session(order: u32, sizes: &[u64], k: u32) -> Opened {
+    session_of(512, order, sizes, k)
+}
+
+fn session_of(blocksize: u32, order: u32, sizes: &[u64], k: u32) -> Opened {
     let ranks: Vec<u64> = (0..sizes.len() as u64).collect();
-    let mut image = vec![0; Layout::new(512, sizes).end(u64::from(k)) as usize];
+    let mut image = vec![0; Layout::new(blocksize, sizes).end(u64::from(k)) as usize];
     let mut table = vec![7; sizes.len() * k as usize];
-    let session = open(order, 1, 7, 512, &ranks, sizes, b"p", k, &mut image, &mut table);
+    let session = open(order, 1, 7, blocksize, &ranks, sizes, b"p", k, &mut image, &mut table);
     (session.expect("a sound plan"), image, table)
+}
+
+/// Writes so many bytes, all of the value 1, to task 1.
+fn write_ones((session, image, table): &mut Opened, length: u64) -> Result<(), u32> {
+    write(session, image, table, 1, &vec![1; length as usize])
 }
 
 fn p12(order: u32) -> (Vec<u8>, u64) {
     let (mut session, mut image, mut table) = session(order, &SIZES, 3);
-    for length in [300, 200, 1] {
-        assert_eq!(write(&mut session, &mut image, &mut table, 1, &vec![9; length]), Ok(()));
+    for (length, byte) in [(300, 7), (200, 8), (1, 9)] {
+        assert_eq!(write(&mut session, &mut image, &mut table, 1, &vec![byte; length]), Ok(()));
     }
-    assert_eq!(image[3071..3074], [0, 9, 0]);
+    assert_eq!(image[2035..2038], [8, 9, 0]);
     let length = close(&mut session, &mut image, &table).expect("an open session");
     assert_eq!(close(&mut session, &mut image, &table), Err(17));
+    (image, length)
+}
+
+/// What the same requests left when a chunk held its requested size.
+fn base_p12(order: u32) -> (Vec<u8>, u64) {
+    let (mut session, mut image, mut table) = session(order, &SIZES, 3);
+    image[1536..2036].fill(8);
+    image[3072] = 9;
+    session.head.counts[0] = 2;
+    table[..4].copy_from_slice(&[500, -1, 1, -1]);
+    let length = close(&mut session, &mut image, &table).expect("an open session");
     (image, length)
 }
 
@@ -40,6 +63,37 @@ fn p11_p12_container() {
     for order in [0, 1] {
         let (image, length) = p12(order);
         let bytes = Order::from_number(order).expect("an order");
+        assert_eq!((length, bytes.int(&image, 1108), bytes.long(&image, 1112)), (3104, 1, 3072));
+        let meta2: Vec<i64> = bytes.longs(&image[3072..3104]).collect();
+        assert_eq!(meta2, [1, 0, 501, -1]);
+
+        let mut table = [5; 3];
+        let loaded = load(&image[..3104], &mut table).expect("a sound container");
+        assert_eq!((loaded.maxchunks, table), (1, [501, -1, 5]));
+        assert_eq!(total(&loaded, &image, &table, 1), Ok(501));
+        assert_eq!(chunk(&loaded, &image, &table, 1, 1), Ok(&image[1536..2037]));
+        assert_eq!(chunk(&loaded, &image, &table, 1, 2), Err(22));
+        assert_eq!(chunk(&loaded, &image, &table, 2, 1), Err(22));
+        check_end(&loaded, &image, &table);
+        assert_eq!(load(&image[..3103], &mut table), Err(12));
+        assert_eq!(load(&image, &mut table[..1]), Err(18));
+    }
+}
+
+/// The stream of task 1 ends 8, 8, 8, 9 after 501 bytes.
+fn check_end(loaded: &Loaded, image: &[u8], table: &[i64]) {
+    let mut out = [0; 9];
+    assert_eq!(read(loaded, image, table, 1, 497, &mut out), Ok(4));
+    assert_eq!(out, [8, 8, 8, 9, 0, 0, 0, 0, 0]);
+    assert_eq!(read(loaded, image, table, 1, 501, &mut out), Ok(0));
+    assert_eq!(read(loaded, image, table, 1, 502, &mut out), Err(23));
+}
+
+#[test]
+fn containers_already_written_stay_acceptable() {
+    for order in [0, 1] {
+        let (image, length) = base_p12(order);
+        let bytes = Order::from_number(order).expect("an order");
         assert_eq!((length, bytes.int(&image, 1108), bytes.long(&image, 1112)), (4656, 2, 4608));
         let meta2: Vec<i64> = bytes.longs(&image[4608..4656]).collect();
         assert_eq!(meta2, [2, 0, 500, -1, 1, -1]);
@@ -47,28 +101,78 @@ fn p11_p12_container() {
         let mut table = [5; 5];
         let loaded = load(&image[..4656], &mut table).expect("a sound container");
         assert_eq!((loaded.maxchunks, table), (2, [500, -1, 1, -1, 5]));
-        assert_eq!(total(&loaded, &image, &table, 1), Ok(501));
+        assert_eq!([1, 2].map(|task| total(&loaded, &image, &table, task)), [Ok(501), Ok(0)]);
         assert_eq!(chunk(&loaded, &image, &table, 1, 2), Ok(&[9u8][..]));
-        assert_eq!(chunk(&loaded, &image, &table, 2, 1), Err(22));
-        let mut out = [0; 9];
-        assert_eq!(read(&loaded, &image, &table, 1, 497, &mut out), Ok(4));
-        assert_eq!(out, [9, 9, 9, 9, 0, 0, 0, 0, 0]);
-        assert_eq!(read(&loaded, &image, &table, 1, 501, &mut out), Ok(0));
-        assert_eq!(read(&loaded, &image, &table, 1, 502, &mut out), Err(23));
-        assert_eq!(load(&image[..4655], &mut table), Err(12));
-        assert_eq!(load(&image, &mut table[..3]), Err(18));
+        check_end(&loaded, &image, &table);
     }
 }
 
 #[test]
 fn p13_room() {
-    let (mut session, mut image, mut table) = session(0, &[500], 2);
-    let requests =
-        [(501, Err(15)), (1, Ok(())), (500, Ok(())), (1, Err(16)), (501, Err(15)), (0, Ok(()))];
+    let mut opened = session(0, &[500], 2);
+    let requests = [(513, 15), (1, 0), (513, 15), (512, 0), (1, 16), (513, 15), (0, 0)];
     for (length, answer) in requests {
-        assert_eq!(write(&mut session, &mut image, &mut table, 1, &vec![1; length]), answer);
+        assert_eq!(write_ones(&mut opened, length).err().unwrap_or(0), answer, "{length}");
     }
-    assert_eq!((session.head.counts[0], table), (2, vec![1, 500]));
+    let held: i64 = opened.2.iter().sum();
+    assert_eq!((2 * (held + 1), 2 * capacity(512, 500)), (1028, 1024));
+    assert_eq!((opened.0.head.counts[0], opened.2), (2, vec![1, 512]));
+}
+
+/// Blocksize, requested size and what a chunk then holds; for a multiple of the blocksize that is the size.
+const CHUNKS: [(u32, u64, u64); 9] = [
+    (512, 500, 512),
+    (512, 511, 512),
+    (512, 512, 512),
+    (512, 513, 1024),
+    (512, 1024, 1024),
+    (512, 1_073_741_824, 1_073_741_824),
+    (4_194_304, 1, 4_194_304),
+    (4_194_304, 4_194_304, 4_194_304),
+    (4_194_304, 1_073_741_823, 1_073_741_824),
+];
+
+#[test]
+fn what_a_chunk_holds() {
+    for (blocksize, size, holds) in CHUNKS {
+        assert_eq!((capacity(blocksize, size), chunk_size(size, blocksize)), (holds, Ok(holds)));
+        let mut tally = Tally::new(2, [(capacity(blocksize, size), vec![0, holds])]);
+        let answers = [holds + 1, 1, holds, 1].map(|length| tally.feed(1, length).number);
+        assert_eq!(answers, [15, 0, 0, 16], "{blocksize}, {size}");
+    }
+    for (blocksize, size, holds) in CHUNKS.into_iter().filter(|&(.., holds)| holds < 1 << 23) {
+        let mut opened = session_of(blocksize, 1, &[size], 1);
+        let lengths = [holds + 1, holds - 1, 2, 1, 1];
+        let answers = lengths.map(|length| write_ones(&mut opened, length).err().unwrap_or(0));
+        assert_eq!(answers, [15, 0, 16, 0, 16], "{blocksize}, {size}");
+        check_values(opened, holds as i64);
+    }
+}
+
+/// In a session, in its container and in the record of its load a value may be what a chunk holds, and no more.
+fn check_values((mut session, mut image, mut table): Opened, holds: i64) {
+    assert_eq!(table, [holds]);
+    assert_eq!(close(&mut session.clone(), &mut image.clone(), &[holds + 1]), Err(19));
+    let length = close(&mut session, &mut image, &table).expect("an open session") as usize;
+    let loaded = load(&image[..length], &mut table).expect("a sound container");
+    assert_eq!(total(&loaded, &image, &table, 1), Ok(holds as u64));
+    assert_eq!(total(&loaded, &image, &[holds + 1], 1), Err(19));
+    Order::Big.put_long(&mut image, length - 8, holds + 1);
+    assert_eq!(load(&image[..length], &mut table), Err(13));
+}
+
+#[test]
+fn chunk_sizes_refused() {
+    for blocksize in [0, 256, 511, 513, 768, 8_388_608, u32::MAX] {
+        for size in [0, 1, 1_073_741_824, 1_073_741_825, u64::MAX] {
+            assert_eq!(chunk_size(size, blocksize), Err(5), "{blocksize}, {size}");
+        }
+    }
+    for blocksize in [512, 1024, 4_194_304] {
+        for size in [0, 1_073_741_825, u64::MAX] {
+            assert_eq!(chunk_size(size, blocksize), Err(9), "{blocksize}, {size}");
+        }
+    }
 }
 
 #[test]
@@ -131,7 +235,7 @@ fn tally_agrees_with_writes() {
     let (mut session, mut image, mut table) = session(1, &sizes, 4);
     let layout = Layout::new(512, &sizes);
     let starts = |task| (0..4).map(|chunk| layout.chunk(task, chunk)).collect();
-    let mut tally = Tally::new(4, (0..3).map(|task| (sizes[task], starts(task))));
+    let mut tally = Tally::new(4, (0..3).map(|task| (capacity(512, sizes[task]), starts(task))));
     let mut seen = [0; 17];
     for i in 0..400u64 {
         let (task, length) = (i * 7 % 11 % 5, i * i * 31 % 97 % 8 * (1 + i % 2 * 89));

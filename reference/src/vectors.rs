@@ -12,18 +12,18 @@ const I64: [i64; 2] = [i64::MIN, i64::MAX];
 /// The names, without what tells the byte order, of those that are stored beside the library; all others are made anew where they are
 /// compared.
 #[rustfmt::skip]
-const STORED: [&str; 33] = [
-    // P12, and one for each number.
-    "p12",
+const STORED: [&str; 34] = [
+    // P12, what was written for it when a chunk held its requested size, and one for each number.
+    "p12", "ok-base-p12",
     "r01-mark-byte-0", "r02-order-0", "r03-cut-1103", "r04-format-4", "r05-blocksize-256", "r06-ntasks-0", "r07-nfiles-2",
-    "r08-rank-of-two-0", "r09-size-0", "r10-not-closed", "r11-maxchunks-33", "r12-start-1537", "r13-value-6",
+    "r08-rank-of-two-0", "r09-size-0", "r10-not-closed", "r11-maxchunks-33", "r12-start-1537", "r13-value-513",
     // The bounds of the rules, and one past them.
     "ok-tasks-1", "ok-tasks-64", "ok-written-64", "r06-ntasks-65",
     "ok-maxchunks-0", "ok-maxchunks-32",
     "ok-blocksize-32768", "r12-too-short-for-blocksize-4194304", "r05-blocksize-8388608",
     "ok-size-idle-1073741824", "r09-size-1073741825",
     "ok-rank-2147483647", "r08-rank-2147483648",
-    "ok-full-512", "ok-prefix-full",
+    "ok-full-two", "ok-prefix-full",
     // The bounds of the input's length.
     "r01-cut-0", "r02-cut-7", "r12-cut-1543", "ok-tail-to-65536",
 ];
@@ -35,6 +35,8 @@ pub fn all() -> Vec<(String, Vec<u8>)> {
     for order in [Order::Little, Order::Big] {
         let bases = Bases::new(order);
         accepted::plans(&mut list, order);
+        accepted::chunks(&mut list, order);
+        accepted::values(&mut list, &bases);
         accepted::changes(&mut list, &bases);
         refused::all(&mut list, &bases);
     }
@@ -83,10 +85,12 @@ struct Bases {
     one: Container,
     /// 64 tasks of size 1 with nothing written: 3072 bytes, META2 at 2560.
     many: Container,
-    /// Sizes 5 and 6, values 5, 3, 1, -1: 3632 bytes, META2 at 3584.
+    /// Sizes 5 and 6, values 512, 3, 1, -1: 3632 bytes, META2 at 3584.
     two: Container,
-    /// Sizes 5 and 6, values 5, -1, 1, -1.
+    /// Sizes 5 and 6, values 512, -1, 1, -1.
     lone: Container,
+    /// Sizes 500 and 600, values 512 and 1024: 3104 bytes, META2 at 3072.
+    full: Container,
 }
 
 impl Bases {
@@ -95,8 +99,9 @@ impl Bases {
         Bases {
             one: Plan::new(order, &[1]).build(&[]),
             many: Plan::new(order, &[1; 64]).build(&[]),
-            two: small.build(&visible(&[(1, 5), (2, 3), (1, 1)])),
-            lone: small.build(&visible(&[(1, 5), (1, 1)])),
+            two: small.build(&visible(&[(1, 512), (2, 3), (1, 1)])),
+            lone: small.build(&visible(&[(1, 512), (1, 1)])),
+            full: Plan::new(order, &[500, 600]).build(&visible(&[(1, 300), (2, 1024), (1, 212)])),
         }
     }
 }
@@ -124,8 +129,17 @@ fn names_tell_the_answers() {
     }
     let names: std::collections::BTreeSet<&String> = vectors.iter().map(|(name, _)| name).collect();
     assert_eq!(names.len(), vectors.len());
-    let p12 = vectors.iter().filter(|(name, _)| name.starts_with("p12"));
-    assert!(p12.map(|(_, bytes)| crate::report::line(bytes)).all(|line| line == "0 2 2 501 0"));
+}
+
+#[test]
+fn lines_and_lengths() {
+    let p12 = [("p12", 3104, "0 2 1 501 0"), ("ok-base-p12", 4656, "0 2 2 501 0")];
+    for (wanted, length, line) in p12.into_iter().chain([("ok-full-two", 3104, "0 2 1 512 1024")]) {
+        let found = stored().into_iter().filter(|(name, _)| plain(name) == wanted);
+        let told: Vec<(usize, String)> =
+            found.map(|(_, bytes)| (bytes.len(), crate::report::line(&bytes))).collect();
+        assert_eq!(told, vec![(length, line.to_string()); 2], "{wanted}");
+    }
 }
 
 #[test]

@@ -40,6 +40,9 @@ at most 64; '-' names neither a file nor the container. What they hold has to fi
     --blocks K            blocks that are planned, 1 to 32 (as few as needed); a file is spread over at most so many
     --force               replace CONTAINER if it is a regular file and none of the files; its mode stays
 
+A task requests its file's length divided by the blocks, rounded up, and at least 1 byte; a chunk is filled to its end
+before the next is begun.
+
 A SIZE may end in k or M. The container is made under a temporary name beside it, and is there once it is whole
 and stored on the drive. A symbolic link is never replaced: name the file that it leads to.
 
@@ -125,8 +128,10 @@ fn create(asked: &Asked, inputs: &[Input], place: &Place) -> Result<(), Failure>
 #[cfg(test)]
 mod tests {
     use super::*;
-    use lapurmihi::{Plan, BLOCKS, TASKS};
+    use crate::files::tests::Scratch;
+    use lapurmihi::{Container, Plan, BLOCKS, TASKS};
     use std::ffi::OsString;
+    use std::fs;
 
     #[test]
     fn the_help_names_the_librarys_limits() {
@@ -151,5 +156,45 @@ mod tests {
         let args = line("--blocksize 512 --order big --prefix run --blocks 3");
         assert_eq!(asked(&args), Ok(all));
         assert!(asked(&line("--order up")).is_err());
+    }
+
+    /// The chunks of a file that was put into a container.
+    fn chunks(folder: &Path, bytes: &[u8], blocksize: u32, blocks: Option<u32>) -> Vec<Vec<u8>> {
+        let (file, made) = (folder.join("file"), folder.join("made.sion"));
+        fs::write(&file, bytes).unwrap();
+        let inputs = inputs(&[file.into()], |what| Failure::Usage("sion create", what)).unwrap();
+        let asked = Asked { blocksize, order: ByteOrder::Little, prefix: b"", blocks };
+        create(&asked, &inputs, &Place { path: &made, force: true, sources: &[] }).unwrap();
+        let container = Container::open(&made).unwrap();
+        let task = container.task(1).unwrap();
+        task.chunks().map(<[u8]>::to_vec).collect()
+    }
+
+    #[test]
+    fn a_chunk_is_filled_to_its_end_before_the_next_is_begun() {
+        let scratch = Scratch::new("chunks");
+        for (blocksize, blocks, length, wanted) in [
+            (512, None, 0, &[][..]),
+            (512, None, 511, &[511]),
+            (512, None, 512, &[512]),
+            (512, None, 513, &[513]),
+            (512, Some(2), 512, &[512]),
+            (512, Some(2), 513, &[512, 1]),
+            (512, Some(2), 1024, &[512, 512]),
+            (512, Some(2), 1025, &[1024, 1]),
+            (512, Some(3), 1024, &[512, 512]),
+            (512, Some(3), 1536, &[512, 512, 512]),
+            (512, Some(3), 1537, &[1024, 513]),
+            (512, Some(32), 512, &[512]),
+            (4096, Some(2), 4096, &[4096]),
+            (4096, Some(2), 4097, &[4096, 1]),
+            (65_536, Some(3), 150_000, &[65_536, 65_536, 18_928]),
+        ] {
+            let bytes: Vec<u8> = (0..length).map(|at| (at % 251) as u8).collect();
+            let chunks = chunks(&scratch.0, &bytes, blocksize, blocks);
+            let lengths: Vec<usize> = chunks.iter().map(Vec::len).collect();
+            assert_eq!(lengths, wanted, "{length} bytes, {blocksize}, {blocks:?}");
+            assert_eq!(chunks.concat(), bytes);
+        }
     }
 }

@@ -232,14 +232,14 @@ fn is_zero(bytes: &[u8]) -> bool {
 }
 
 #[cfg(test)]
-mod tests {
+pub mod tests {
     use super::*;
 
     /// A folder that is removed in the end.
-    struct Scratch(PathBuf);
+    pub struct Scratch(pub PathBuf);
 
     impl Scratch {
-        fn new(name: &str) -> Scratch {
+        pub fn new(name: &str) -> Scratch {
             let path = std::env::temp_dir().join(format!("sion-{name}-{}", std::process::id()));
             fs::create_dir(&path).unwrap();
             Scratch(path)

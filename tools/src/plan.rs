@@ -9,7 +9,7 @@ pub struct Asked<'a> {
     pub blocksize: u32,
     pub order: ByteOrder,
     pub prefix: &'a [u8],
-    /// The blocks; if none are said, the fewest for which no chunk is too large.
+    /// The blocks; if none are said, the fewest for which no requested size is too large.
     pub blocks: Option<u32>,
 }
 
@@ -71,7 +71,8 @@ impl Asked<'_> {
     }
 }
 
-/// The bytes of each chunk of a file that is spread over blocks, at least 1.
+/// The size that a file requests for its chunks: an even share of its bytes for each block, at least 1. A chunk holds this or more, so that
+/// the file fits, and may use fewer chunks than there are blocks.
 fn share(input: &Input, blocks: u32) -> u64 {
     input.length.div_ceil(blocks.max(1).into()).max(1)
 }
@@ -106,16 +107,32 @@ mod tests {
     }
 
     #[test]
-    fn as_few_blocks_as_the_chunk_size_allows() {
+    fn as_few_blocks_as_the_requested_size_allows() {
         assert_eq!(planned(&ASKED, &lengths(&[0, 5, GIB])), plan(1, &[1, 5, GIB]));
         assert_eq!(planned(&ASKED, &lengths(&[3, GIB + 1])), plan(2, &[2, GIB / 2 + 1]));
         assert_eq!(planned(&ASKED, &lengths(&[32 * GIB])), plan(32, &[GIB]));
+    }
+
+    /// The greatest requested size is a multiple of every blocksize, so that no chunk holds more than it, and no file needs fewer blocks.
+    #[test]
+    fn rounding_up_spares_no_block() {
+        for blocksize in [512, 4 << 20] {
+            let asked = Asked { blocksize, ..ASKED };
+            for (length, blocks) in [(GIB, 1), (GIB + 1, 2), (31 * GIB, 31), (31 * GIB + 1, 32)] {
+                let size = length.div_ceil(blocks.into());
+                let plan = Plan::new(blocksize).blocks(blocks).task(0, size);
+                assert_eq!(planned(&asked, &lengths(&[length])), Ok(plan));
+            }
+        }
     }
 
     #[test]
     fn as_many_blocks_as_are_asked_for() {
         let asked = Asked { blocks: Some(3), ..ASKED };
         assert_eq!(planned(&asked, &lengths(&[0, 7])), plan(3, &[1, 3]));
+        let asked = Asked { blocks: Some(2), ..ASKED };
+        let around_two_chunks = lengths(&[1023, 1024, 1025]);
+        assert_eq!(planned(&asked, &around_two_chunks), plan(2, &[512, 512, 513]));
     }
 
     #[test]

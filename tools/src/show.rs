@@ -21,9 +21,10 @@ const HELP: &str = "\
 usage: sion show [--chunks] [--json] FILE...
 
 Shows what containers hold: byte order, versions, blocksize and filename prefix, the length of the file and the bytes
-that follow the container in it; and a line for each task with its rank, the size of its chunks, the chunks that it
-used, its bytes, and the share of those chunks that they fill. Where several files are named, a line FILE: stands
-before each. FILE '-' is standard input.
+that follow the container in it; and a line for each task with its rank, the size that it requested for a chunk, the
+chunk size, which is what a chunk holds, the chunks that it used, its bytes, and the share of those chunks that they
+fill. The chunk size is the requested size, rounded up to a multiple of the blocksize. Where several files are named,
+a line FILE: stands before each. FILE '-' is standard input.
 
     --chunks    list every chunk too: its task, rank and number, its offset in the file and its bytes
     --json      print a JSON object for each file, with an array of its tasks
@@ -32,7 +33,7 @@ The exit status is 0; 3 where a file could not be read or nothing could be print
 2 where the command line is wrong.
 ";
 
-const HEADINGS: [&str; 6] = ["task", "rank", "chunk size", "chunks", "bytes", "fill"];
+const HEADINGS: [&str; 7] = ["task", "rank", "requested", "chunk size", "chunks", "bytes", "fill"];
 const CHUNK_HEADINGS: [&str; 5] = ["task", "rank", "chunk", "offset", "bytes"];
 
 fn run(args: &Args) -> Result<(), Failure> {
@@ -107,6 +108,7 @@ fn task_object(task: Task, chunks: bool) -> String {
     let mut fields = vec![
         ("task", task.number().to_string()),
         ("rank", task.rank().to_string()),
+        ("requested", task.requested_size().to_string()),
         ("chunksize", task.chunk_size().to_string()),
         ("used", task.chunks_used().to_string()),
         ("bytes", task.total().to_string()),
@@ -147,16 +149,17 @@ fn tasks(container: &Container) -> String {
     let (mut chunks, mut bytes, mut room) = (0, 0, 0);
     for task in container.tasks() {
         let (size, used, total) = (task.chunk_size(), task.chunks_used(), task.total());
-        let (number, rank) = (task.number().to_string(), task.rank().to_string());
-        rows.push(row([number, rank, size.to_string()], used, total, used * size));
+        let numbers = [task.number(), task.rank(), task.requested_size(), size];
+        rows.push(row(numbers.map(|number| number.to_string()), used, total, used * size));
         (chunks, bytes, room) = (chunks + used, bytes + total, room + used * size);
     }
-    rows.push(row(["sum".to_string(), String::new(), String::new()], chunks, bytes, room));
+    rows.push(row(["sum", "", "", ""].map(str::to_string), chunks, bytes, room));
     aligned(&rows)
 }
 
-fn row([task, rank, size]: [String; 3], chunks: u64, bytes: u64, room: u64) -> [String; 6] {
-    [task, rank, size, chunks.to_string(), bytes.to_string(), fill(bytes, room)]
+fn row(first: [String; 4], chunks: u64, bytes: u64, room: u64) -> [String; 7] {
+    let [task, rank, requested, size] = first;
+    [task, rank, requested, size, chunks.to_string(), bytes.to_string(), fill(bytes, room)]
 }
 
 /// Bytes as a share of their room in percent, cut behind the first digit, so that only full chunks show 100.
@@ -183,6 +186,7 @@ mod tests {
     use super::*;
 
     const SAMPLE: &[u8] = include_bytes!("../../examples/two-tasks.sion");
+    const BEFORE: &[u8] = include_bytes!("../../crates/vectors/data/ok-base-p12.sion");
 
     #[test]
     fn the_sample() {
@@ -192,24 +196,25 @@ byte order   little
 version      1, patch level 7
 blocksize    512
 tasks        2
-most chunks  2
+most chunks  1
 prefix       data/run.sion
-file length  4656 bytes
+file length  3104 bytes
 trailing     0 bytes
 ";
         assert_eq!(about(&container), wanted);
         let wanted = "\
-task  rank  chunk size  chunks  bytes    fill
-   1     0         500       2    501  50.1 %
-   2     1         600       0      0       -
- sum                         2    501  50.1 %
+task  rank  requested  chunk size  chunks  bytes    fill
+   1     0        500         512       1    501  97.8 %
+   2     1        600        1024       0      0       -
+ sum                                    1    501  97.8 %
 ";
         assert_eq!(tasks(&container), wanted);
     }
 
+    /// The chunks of a container that was written before version 0.2.0, when a chunk held its requested size.
     #[test]
-    fn the_samples_chunks() {
-        let container = Container::from_bytes(SAMPLE.to_vec()).unwrap();
+    fn the_chunks_of_a_container_of_before() {
+        let container = Container::from_bytes(BEFORE.to_vec()).unwrap();
         let wanted = "\
 task  rank  chunk  offset  bytes
    1     0      1    1536    500
@@ -217,11 +222,11 @@ task  rank  chunk  offset  bytes
 ";
         assert_eq!(parts(&container), wanted);
         let wanted = concat!(
-            r#"{"task":1,"rank":0,"chunksize":500,"used":2,"bytes":501,"chunks":["#,
+            r#"{"task":1,"rank":0,"requested":500,"chunksize":512,"used":2,"bytes":501,"chunks":["#,
             r#"{"chunk":1,"offset":1536,"bytes":500},{"chunk":2,"offset":3072,"bytes":1}]}"#,
         );
         assert_eq!(task_object(container.task(1).unwrap(), true), wanted);
-        let wanted = r#"{"task":2,"rank":1,"chunksize":600,"used":0,"bytes":0}"#;
+        let wanted = r#"{"task":2,"rank":1,"requested":600,"chunksize":1024,"used":0,"bytes":0}"#;
         assert_eq!(task_object(container.task(2).unwrap(), false), wanted);
     }
 

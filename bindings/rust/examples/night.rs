@@ -7,8 +7,8 @@ use std::error::Error;
 use std::fs::{self, File};
 use std::io::{self, Write};
 
-/// Each station's rank, and the bytes that a chunk of it holds.
-const STATIONS: [(u64, u64); 3] = [(40, 32), (7, 48), (12, 96)];
+/// Each station's rank, and the bytes that it requests for a chunk; the blocksize is 512, so that each chunk holds 512.
+const STATIONS: [(u64, u64); 3] = [(40, 100), (7, 200), (12, 500)];
 
 fn main() -> Result<(), Box<dyn Error>> {
     let file = std::env::args_os().nth(1).ok_or("usage: night FILE")?;
@@ -23,11 +23,11 @@ fn main() -> Result<(), Box<dyn Error>> {
     // the night: a line that has to stay whole is a request, and a text of any length a stream
     session.write(1, b"22:10 to Irun, platform 1\n")?;
     session.write(1, b"22:41 to Hendaia, platform 3\n")?;
-    let longer = b"23:18 to Bilbao, platform 1, calls at every station\n";
-    assert_eq!(session.write(2, longer), Err(Refusal::TooLong)); // nothing of it is stored
+    let longer = "23:18 to Bilbao, platform 1, calls at every station\n".repeat(10);
+    assert_eq!(session.write(2, longer.as_bytes()), Err(Refusal::TooLong)); // nothing of it is stored
     session.write(2, b"23:18 to Bilbao, platform 1\n")?;
     let mut writer = session.writer(3)?;
-    for track in 1..=9 {
+    for track in 1..=45 {
         writeln!(writer, "00:30 track {track} closed until 04:00")?;
     }
     println!("{} bytes of closed tracks", writer.stored());

@@ -8,7 +8,8 @@ use std::fs::File;
 use std::ops::Range;
 use std::path::Path;
 
-/// Why a call on a loaded container may be taken for accepted: it is proved that an accepted load can be read.
+/// Why a call on a loaded container may be taken for accepted: it is proved that an accepted load can be read, and that what its chunks
+/// hold is answered.
 const READABLE: &str = "an accepted load is readable";
 
 /// A container whose structure was checked, over memory of its own or lent to it. That its bytes are the ones that were sent, no check can
@@ -20,8 +21,8 @@ const READABLE: &str = "an accepted load is readable";
 /// let container = Container::open("../../examples/two-tasks.sion")?;
 /// assert_eq!(container.byte_order(), ByteOrder::Little);
 /// assert_eq!(container.blocksize(), 512);
-/// assert_eq!(container.maxchunks(), 2);
-/// assert_eq!((container.prefix(), container.length()), (&b"data/run.sion"[..], 4656));
+/// assert_eq!(container.maxchunks(), 1);
+/// assert_eq!((container.prefix(), container.length()), (&b"data/run.sion"[..], 3104));
 /// let totals: Vec<u64> = container.tasks().map(|task| task.total()).collect();
 /// assert_eq!(totals, [501, 0]);
 /// # Ok::<(), lapurmihi::OpenError>(())
@@ -179,12 +180,13 @@ impl fmt::Debug for Container<'_> {
 ///
 /// let container = Container::open("../../examples/two-tasks.sion")?;
 /// let task = container.task(1)?;
+/// assert_eq!((task.requested_size(), task.chunk_size()), (500, 512));
 /// let lengths: Vec<usize> = task.chunks().map(<[u8]>::len).collect();
-/// assert_eq!(lengths, [500, 1]);
-/// assert_eq!(task.chunk(3), Err(Refusal::NoChunk));
+/// assert_eq!(lengths, [501]);
+/// assert_eq!(task.chunk(2), Err(Refusal::NoChunk));
 ///
 /// let mut end = [0; 4];
-/// assert_eq!(task.read_at(499, &mut end)?, 2); // across the two chunks, up to the total
+/// assert_eq!(task.read_at(499, &mut end)?, 2); // up to the total
 /// assert_eq!(task.read_at(502, &mut end), Err(Refusal::PastTotal));
 /// # Ok::<(), lapurmihi::OpenError>(())
 /// ```
@@ -205,8 +207,15 @@ impl<'c> Task<'c> {
         self.container.record.ranks[self.index]
     }
 
-    /// The most bytes that each of its chunks holds.
+    /// The most bytes that each of its chunks holds: its requested size, rounded up to a multiple of the blocksize.
     pub fn chunk_size(&self) -> u64 {
+        let holds = raw::chunk_size(self.requested_size(), self.container.blocksize());
+        accepted(holds.refusal).expect(READABLE);
+        holds.bytes
+    }
+
+    /// The bytes that were requested for each of its chunks when the container was planned.
+    pub fn requested_size(&self) -> u64 {
         self.container.record.sizes[self.index]
     }
 
@@ -264,6 +273,7 @@ impl fmt::Debug for Task<'_> {
         f.debug_struct("Task")
             .field("number", &self.number())
             .field("rank", &self.rank())
+            .field("requested_size", &self.requested_size())
             .field("chunk_size", &self.chunk_size())
             .field("chunks_used", &self.chunks_used())
             .field("total", &self.total())

@@ -1,13 +1,14 @@
 //! Opens, fills, closes, checks and reads one container in the SIONlib file format, in files or over memory that the caller lends.
 //!
-//! A container holds the bytes of up to 64 tasks, in chunks. The work is done by a library whose every function is proved. Every call is
-//! accepted or refused with one of the [`Refusal`]s. Tasks and chunks are counted from 1. A session, and a container over lent memory,
-//! allocate nothing but a [`Plan`]'s lists and prefix; [`Container::open`] and its kin own their table and what cannot be mapped.
+//! A container holds the bytes of up to 64 tasks, in chunks. A task requests a size for its chunks, and a chunk holds this size rounded up to
+//! a multiple of the blocksize. The work is done by a library whose every function is proved. Every call is accepted or refused with one of
+//! the [`Refusal`]s. Tasks and chunks are counted from 1. A session, and a container over lent memory, allocate nothing but a [`Plan`]'s
+//! lists and prefix; [`Container::open`] and its kin own their table and what cannot be mapped.
 //!
 //! ```
 //! use lapurmihi::{Container, Plan, CELLS};
 //!
-//! // Two tasks of ranks 7 and 8, whose chunks hold 500 and 600 bytes, with room for three chunks each.
+//! // Two tasks of ranks 7 and 8, which request 500 and 600 bytes for a chunk, with room for three chunks each: of 512 and 1024 bytes.
 //! let plan = Plan::new(512).prefix("night").blocks(3).task(7, 500).task(8, 600);
 //! let needs = plan.needs()?;
 //! let (mut image, mut table) = (vec![0; needs.image], vec![0; needs.cells]);

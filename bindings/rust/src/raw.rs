@@ -42,7 +42,7 @@ pub struct Session {
     pub numbers: SessionNumbers,
     /// The global rank of each task.
     pub ranks: [u64; TASKS],
-    /// The chunk size that each task requested.
+    /// The requested size of each task; [`chunk_size`] says what a chunk of it holds.
     pub sizes: [u64; TASKS],
     /// The chunks that each task has begun.
     pub counts: [u64; TASKS],
@@ -76,7 +76,7 @@ pub struct Loaded {
     pub numbers: LoadedNumbers,
     /// The global rank of each task.
     pub ranks: [u64; TASKS],
-    /// The chunk size that each task requested.
+    /// The requested size of each task; [`chunk_size`] says what a chunk of it holds.
     pub sizes: [u64; TASKS],
     /// The chunks that each task used.
     pub counts: [u64; TASKS],
@@ -160,7 +160,7 @@ pub struct Part {
     pub length: u64,
 }
 
-/// A number of bytes: a task's total, what a read copied, or a container's length.
+/// A number of bytes: what a chunk holds, a task's total, what a read copied, or a container's length.
 #[repr(C)]
 #[derive(Clone, Copy, Debug, PartialEq, Eq)]
 pub struct ByteCount {
@@ -174,6 +174,8 @@ pub struct ByteCount {
 #[link(name = "lapurmihi", kind = "static")]
 extern "C" {
     fn lapur_version() -> u32;
+
+    fn lapur_chunk_size(size: u64, blocksize: u32) -> ByteCount;
 
     fn lapur_needs(
         plan: Plan,
@@ -305,6 +307,12 @@ impl Loaded {
 #[inline]
 pub fn version() -> u32 {
     unsafe { lapur_version() }
+}
+
+/// The chunk size, which is what a chunk holds, from the task's requested size and the blocksize: its tests are 5 and 9.
+#[inline]
+pub fn chunk_size(size: u64, blocksize: u32) -> ByteCount {
+    unsafe { lapur_chunk_size(size, blocksize) }
 }
 
 /// What an opening with this plan needs: its tests but for the lengths of image and table, 2, 5, 6, 21, 8, 9 and 20.

@@ -60,16 +60,17 @@ impl Plan {
         }
     }
 
-    /// Adds a task: its global rank, and the most bytes that each of its chunks holds.
-    pub fn task(mut self, rank: u64, chunk_size: u64) -> Plan {
+    /// Adds a task: its global rank, and the bytes that it requests for each of its chunks. A chunk holds this requested size rounded up to a
+    /// multiple of the blocksize, as [`Plan::chunk_size`] says.
+    pub fn task(mut self, rank: u64, requested_size: u64) -> Plan {
         self.ranks.push(rank);
-        self.sizes.push(chunk_size);
+        self.sizes.push(requested_size);
         self
     }
 
-    /// Adds tasks by their ranks and chunk sizes.
+    /// Adds tasks by their ranks and requested sizes.
     pub fn tasks(self, tasks: impl IntoIterator<Item = (u64, u64)>) -> Plan {
-        tasks.into_iter().fold(self, |plan, (rank, chunk_size)| plan.task(rank, chunk_size))
+        tasks.into_iter().fold(self, |plan, (rank, requested_size)| plan.task(rank, requested_size))
     }
 
     /// Plans so many blocks: the chunks that each task has room for.
@@ -92,6 +93,22 @@ impl Plan {
         Plan { prefix: prefix.into(), ..self }
     }
 
+    /// The most bytes that each chunk of a task, counted from 1, will hold: its requested size, rounded up to a multiple of the blocksize.
+    ///
+    /// ```
+    /// use lapurmihi::{Plan, Refusal};
+    ///
+    /// let plan = Plan::new(4096).task(0, 4000).task(1, 0);
+    /// assert_eq!(plan.chunk_size(1), Ok(4096));
+    /// assert_eq!(plan.chunk_size(2), Err(Refusal::BadSize));
+    /// assert_eq!(plan.chunk_size(3), Err(Refusal::NoTask));
+    /// ```
+    pub fn chunk_size(&self, task: u64) -> Result<u64, Refusal> {
+        let index = usize::try_from(task).ok().and_then(|task| task.checked_sub(1));
+        let size = index.and_then(|index| self.sizes.get(index)).ok_or(Refusal::NoTask)?;
+        held(*size, self.blocksize)
+    }
+
     /// The image and the table that [`open`](Plan::open) has to be lent.
     pub fn needs(&self) -> Result<Needs, Refusal> {
         let needed = raw::needs(self.numbers(), &self.ranks, &self.sizes, &self.prefix);
@@ -102,8 +119,8 @@ impl Plan {
     }
 
     /// Opens a session over an image and a table, which may be longer than needed. What stands in the table does not matter. What stands in
-    /// the image stays where nothing is written, in gaps and in chunks that are not used, and becomes part of the container: lend one that
-    /// is cleared.
+    /// the image stays where nothing is written, such as in the unused room of a chunk, and becomes part of the container: lend one that is
+    /// cleared.
     pub fn open<'a>(
         &self,
         image: &'a mut [u8],
@@ -131,9 +148,11 @@ impl Plan {
 /// let needs = plan.needs()?;
 /// let (mut image, mut table) = (vec![0; needs.image], vec![0; needs.cells]);
 /// let mut session = plan.open(&mut image, &mut table)?;
+/// assert_eq!((session.requested_size(1), session.chunk_size(1)), (Ok(500), Ok(512)));
 /// session.write(1, b"a")?;
-/// session.write(1, &[7; 500])?; // a request is never split: this one begins the second chunk
+/// session.write(1, &[7; 512])?; // a request is never split: this one begins the second chunk
 /// assert_eq!(session.write(1, b"b"), Err(Refusal::NoChunkLeft));
+/// assert_eq!(session.write(1, &[7; 513]), Err(Refusal::TooLong));
 /// assert_eq!(session.write(2, b"b"), Err(Refusal::NoTask));
 /// let container: &[u8] = session.close()?;
 /// assert!(container.starts_with(b"sion"));
@@ -178,8 +197,14 @@ impl<'a> Session<'a> {
         self.record.numbers.planned
     }
 
-    /// The most bytes that each chunk of a task, counted from 1, holds.
+    /// The most bytes that each chunk of a task, counted from 1, holds, and so the most that a request may have: its requested size, rounded
+    /// up to a multiple of the blocksize.
     pub fn chunk_size(&self, task: u64) -> Result<u64, Refusal> {
+        held(self.requested_size(task)?, self.record.numbers.blocksize)
+    }
+
+    /// The bytes that the plan requested for each chunk of a task, counted from 1.
+    pub fn requested_size(&self, task: u64) -> Result<u64, Refusal> {
         Ok(self.record.sizes[self.index(task)?])
     }
 
@@ -209,4 +234,11 @@ impl fmt::Debug for Session<'_> {
             .field("chunks_begun", &begun)
             .finish_non_exhaustive()
     }
+}
+
+/// What a chunk of a task with this requested size holds.
+fn held(requested_size: u64, blocksize: u32) -> Result<u64, Refusal> {
+    let counted = raw::chunk_size(requested_size, blocksize);
+    accepted(counted.refusal)?;
+    Ok(counted.bytes)
 }

@@ -25,21 +25,22 @@ use std::io::{self, ErrorKind, Write};
 /// use lapurmihi::{Container, Plan, Refusal, CELLS};
 /// use std::io::{ErrorKind, Write};
 ///
-/// let plan = Plan::new(512).blocks(2).task(0, 10);
+/// let plan = Plan::new(512).blocks(2).task(0, 500); // two chunks, which hold 512 bytes each
 /// let needs = plan.needs()?;
 /// let (mut image, mut table) = (vec![0; needs.image], vec![0; needs.cells]);
 /// let mut session = plan.open(&mut image, &mut table)?;
 ///
 /// let mut writer = session.writer(1)?;
-/// writeln!(writer, "{:02}:{:02} to Lindau", 5, 12)?; // 16 bytes, ten of them in the first chunk
-/// let error = writer.write_all(b"05:40 to Ulm\n").unwrap_err();
+/// write!(writer, "{:1000}", "to Lindau:")?; // 1000 bytes, 512 of them in the first chunk
+/// let error = writer.write_all(b"05:12, 05:40, 06:12, 06:40").unwrap_err();
 /// assert_eq!(error.kind(), ErrorKind::StorageFull);
 /// assert_eq!(error.downcast::<Refusal>()?, Refusal::NoChunkLeft);
-/// assert_eq!(writer.stored(), 20); // four bytes of the second line
+/// assert_eq!(writer.stored(), 1024); // 24 bytes of the second text
 ///
 /// let mut table = [0; CELLS];
 /// let container = Container::load(session.close()?, &mut table)?;
-/// assert_eq!(std::io::read_to_string(container.task(1)?.stream())?, "05:12 to Lindau\n05:4");
+/// let text = std::io::read_to_string(container.task(1)?.stream())?;
+/// assert!(text.ends_with("05:12, 05:40, 06:12, 06:"));
 /// # Ok::<(), Box<dyn std::error::Error>>(())
 /// ```
 #[derive(Debug)]

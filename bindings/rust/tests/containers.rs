@@ -11,22 +11,37 @@ fn the_sample_is_read() {
     let container = Container::load(SAMPLE, &mut table).unwrap();
     assert_eq!(container.byte_order(), ByteOrder::Little);
     assert_eq!((container.version(), container.patch()), (1, 7));
-    assert_eq!((container.blocksize(), container.maxchunks()), (512, 2));
-    let rows: Vec<_> = container
-        .tasks()
-        .map(|t| (t.number(), t.rank(), t.chunk_size(), t.chunks_used(), t.total()))
-        .collect();
-    assert_eq!(rows, [(1, 0, 500, 2, 501), (2, 1, 600, 0, 0)]);
+    assert_eq!((container.blocksize(), container.maxchunks()), (512, 1));
+    let sizes: Vec<_> = container.tasks().map(|t| (t.requested_size(), t.chunk_size())).collect();
+    assert_eq!(sizes, [(500, 512), (600, 1024)]);
+    let rows: Vec<_> =
+        container.tasks().map(|t| (t.number(), t.rank(), t.chunks_used(), t.total())).collect();
+    assert_eq!(rows, [(1, 0, 1, 501), (2, 1, 0, 0)]);
     let task = container.task(1).unwrap();
+    assert_eq!(task.chunks().collect::<Vec<_>>(), [bytes(501)]);
+    assert_eq!(task.chunk(1).unwrap().as_ptr(), &SAMPLE[1536], "a part of the image");
+    assert_eq!(SAMPLE[2036], 250, "the last byte");
+}
+
+#[test]
+fn a_container_of_before_is_read() {
+    let mut table = vec![CELL; 6];
+    let container = Container::load(BEFORE, &mut table).unwrap();
+    assert_eq!((container.maxchunks(), container.length()), (2, 4656));
+    let totals: Vec<_> = container.tasks().map(|t| (t.chunk_size(), t.total())).collect();
+    assert_eq!(totals, [(512, 501), (1024, 0)]);
+    let task = container.task(1).unwrap();
+    assert_eq!(task.chunks().map(<[u8]>::len).collect::<Vec<_>>(), [500, 1]);
     assert_eq!(task.chunks().collect::<Vec<_>>().concat(), bytes(501));
-    assert_eq!(task.chunk(2).unwrap().as_ptr(), &SAMPLE[3072], "a part of the image");
+    assert_eq!(task.chunk(2).unwrap().as_ptr(), &BEFORE[3072]);
+    assert_eq!(table, [500, -1, 1, -1, CELL, CELL]);
 }
 
 #[test]
 fn only_the_cells_of_the_container_are_filled() {
     let mut table = vec![CELL; 6];
     Container::load(SAMPLE, &mut table).unwrap();
-    assert_eq!(table, [500, -1, 1, -1, CELL, CELL]);
+    assert_eq!(table, [501, -1, CELL, CELL, CELL, CELL]);
 }
 
 #[test]
@@ -35,7 +50,7 @@ fn what_follows_the_container_is_not_looked_at() {
     let mut table = table();
     let container = Container::load(&longer, &mut table).unwrap();
     assert_eq!(container.task(1).unwrap().total(), 501);
-    assert_eq!((container.image(), container.length()), (&longer[..], 4656));
+    assert_eq!((container.image(), container.length()), (&longer[..], 3104));
 }
 
 #[test]
@@ -65,17 +80,17 @@ fn cut_containers_are_refused() {
         (0..4, Refusal::NoMark),
         (4..8, Refusal::NoOrder),
         (8..1120, Refusal::ShortMeta1),
-        (1120..4656, Refusal::BadMeta2Place),
+        (1120..3104, Refusal::BadMeta2Place),
     ];
     for order in ORDERS {
         let container = paper_container(order);
         for (lengths, refusal) in cuts.clone() {
             for length in lengths {
-                assert_eq!(load(&container[..length], 4), Err(refusal), "{length} bytes");
+                assert_eq!(load(&container[..length], 2), Err(refusal), "{length} bytes");
             }
         }
-        assert_eq!(load(&container, 4), Ok(()));
-        assert_eq!(load(&container, 3), Err(Refusal::TooShort));
+        assert_eq!(load(&container, 2), Ok(()));
+        assert_eq!(load(&container, 1), Err(Refusal::TooShort));
     }
 }
 
@@ -94,18 +109,33 @@ fn flipped_fields_are_refused() {
         (1095, 128, Refusal::BadSize),
         (1108, 64, Refusal::BadMaxchunks),
         (1112, 1, Refusal::BadMeta2Place),
-        (4608, 1, Refusal::BadMeta2),
-        (4624 + 1, 2, Refusal::BadMeta2),
-        (4632, 1, Refusal::BadMeta2),
+        (3072, 1, Refusal::BadMeta2),
+        (3088 + 1, 2, Refusal::BadMeta2),
+        (3096, 1, Refusal::BadMeta2),
     ];
     for (place, bit, refusal) in flips {
         let mut container = SAMPLE.to_vec();
         container[place] ^= bit;
-        assert_eq!(load(&container, 4), Err(refusal), "bit {bit} of byte {place}");
+        assert_eq!(load(&container, 2), Err(refusal), "bit {bit} of byte {place}");
     }
     let mut open = SAMPLE.to_vec();
     open[1112..1120].fill(0);
-    assert_eq!(load(&open, 4), Err(Refusal::NotClosed));
+    assert_eq!(load(&open, 2), Err(Refusal::NotClosed));
+}
+
+#[test]
+fn a_chunk_may_be_full_and_not_fuller() {
+    let with = |bytes: i64| {
+        let mut container = SAMPLE.to_vec();
+        container[3088..3096].copy_from_slice(&bytes.to_le_bytes());
+        load(&container, 2)
+    };
+    for bytes in [0, 499, 500, 501, 511, 512] {
+        assert_eq!(with(bytes), Ok(()), "{bytes} bytes");
+    }
+    for bytes in [-1, 513, 600, 1024, i64::MAX, i64::MIN] {
+        assert_eq!(with(bytes), Err(Refusal::BadMeta2), "{bytes} bytes");
+    }
 }
 
 #[test]
@@ -122,7 +152,7 @@ fn there_is_no_task_0_and_none_past_the_last() {
 #[test]
 fn only_used_chunks_are_handed_back() {
     let mut table = table();
-    let container = Container::load(SAMPLE, &mut table).unwrap();
+    let container = Container::load(BEFORE, &mut table).unwrap();
     for (task, chunk) in [(1, 0), (1, 3), (1, u64::MAX), (2, 0), (2, 1)] {
         assert_eq!(container.task(task).unwrap().chunk(chunk), Err(Refusal::NoChunk));
     }
@@ -133,8 +163,15 @@ fn only_used_chunks_are_handed_back() {
 
 #[test]
 fn reads_go_up_to_the_total_and_change_no_byte_behind() {
+    for container in [SAMPLE, BEFORE] {
+        reads_of(container);
+    }
+}
+
+/// Reads of the paper's container, whose bytes stand in one chunk or in two.
+fn reads_of(container: &[u8]) {
     let (all, mut table) = (bytes(501), table());
-    let container = Container::load(SAMPLE, &mut table).unwrap();
+    let container = Container::load(container, &mut table).unwrap();
     let task = container.task(1).unwrap();
     for place in [0, 1, 499, 500, 501] {
         for length in [0, 1, 2, 3, 600] {
@@ -160,10 +197,10 @@ fn chunks_outlive_the_task() {
     let container = Container::load(SAMPLE, &mut table).unwrap();
     let chunk = {
         let task = container.task(1).unwrap();
-        assert_eq!(task.chunk_place(2), Ok(3072..3073));
-        task.chunk(2).unwrap()
+        assert_eq!(task.chunk_place(1), Ok(1536..2037));
+        task.chunk(1).unwrap()
     };
-    assert_eq!(chunk, [250]);
+    assert_eq!(chunk, bytes(501));
 }
 
 #[test]
@@ -187,7 +224,6 @@ fn a_container_shows_itself() {
     let container = Container::load(SAMPLE, &mut table).unwrap();
     let shown = format!("{container:?}");
     assert!(shown.starts_with("Container { byte_order: Little, version: 1, patch: 7,"), "{shown}");
-    assert!(
-        shown.contains("Task { number: 1, rank: 0, chunk_size: 500, chunks_used: 2, total: 501 }")
-    );
+    let task = "Task { number: 1, rank: 0, requested_size: 500, chunk_size: 512, chunks_used: 1, total: 501 }";
+    assert!(shown.contains(task), "{shown}");
 }

@@ -2,7 +2,7 @@
 
 mod common;
 
-use common::SAMPLE;
+use common::{BEFORE, SAMPLE};
 use lapurmihi::raw::{self, ByteCount, Closed, LoadAnswer, Loaded, LoadedNumbers, Needed, Opened};
 use lapurmihi::raw::{Part, Plan, Session, SessionNumbers};
 use lapurmihi::{BLOCKS, CELLS, TASKS};
@@ -40,6 +40,9 @@ const NOT_LOADED: Loaded = Loaded {
     counts: [0; TASKS],
 };
 
+/// What a chunk of each task holds in the session below.
+const HOLDS: usize = 1024;
+
 /// The numbers of a plan with the most blocks.
 fn plan(order: u32) -> Plan {
     Plan { order, version: -2, patch: 0x1234_5678, blocksize: 1024, planned: BLOCKS as u32 }
@@ -68,7 +71,7 @@ fn filled(order: u32, image: &mut [u8], table: &mut [i64]) -> Session {
     assert_eq!(opened, Opened { session, refusal: 0 });
     for (task, count) in counts().into_iter().enumerate() {
         for done in 1..=count {
-            let bytes = vec![task as u8; sizes[task] as usize];
+            let bytes = vec![task as u8; HOLDS];
             let after = Session { counts: with(session.counts, task, done), ..session };
             assert_eq!(raw::write(&mut session, image, table, task as u64 + 1, &bytes), 0);
             assert_eq!(session, after);
@@ -118,7 +121,7 @@ fn records_survive_the_library() {
         assert_eq!(raw::load(&image, &mut table), LoadAnswer { loaded, refusal: 0 });
         for (task, count) in counts().into_iter().enumerate() {
             let total = raw::total(&loaded, &image, &table, task as u64 + 1);
-            assert_eq!(total, ByteCount { refusal: 0, bytes: count * sizes[task] });
+            assert_eq!(total, ByteCount { refusal: 0, bytes: count * HOLDS as u64 });
         }
     }
 }
@@ -126,15 +129,45 @@ fn records_survive_the_library() {
 #[test]
 fn reads_answer_in_their_fields() {
     let mut table = vec![0; 4];
-    let loaded = raw::load(SAMPLE, &mut table).loaded;
-    let placed = raw::chunk(&loaded, SAMPLE, &table, 1, 1);
+    let loaded = raw::load(BEFORE, &mut table).loaded;
+    let placed = raw::chunk(&loaded, BEFORE, &table, 1, 1);
     assert_eq!(placed, Part { refusal: 0, start: 1536, length: 500 });
-    let placed = raw::chunk(&loaded, SAMPLE, &table, 1, 2);
+    let placed = raw::chunk(&loaded, BEFORE, &table, 1, 2);
     assert_eq!(placed, Part { refusal: 0, start: 3072, length: 1 });
     let mut out = [9; 5];
-    let copied = raw::read(&loaded, SAMPLE, &table, 1, 498, &mut out);
+    let copied = raw::read(&loaded, BEFORE, &table, 1, 498, &mut out);
     assert_eq!(copied, ByteCount { refusal: 0, bytes: 3 });
-    assert_eq!(out, [SAMPLE[2034], SAMPLE[2035], SAMPLE[3072], 9, 9]);
+    assert_eq!(out, [BEFORE[2034], BEFORE[2035], BEFORE[3072], 9, 9]);
+}
+
+#[test]
+fn chunk_sizes_are_multiples_of_the_blocksize() {
+    for (requested, blocksize, holds) in [
+        (1, 512, 512),
+        (511, 512, 512),
+        (512, 512, 512),
+        (513, 512, 1024),
+        (1 << 30, 512, 1 << 30),
+        (1500, 4096, 4096),
+        (4097, 4096, 8192),
+        (1, 1 << 22, 1 << 22),
+        ((1 << 30) - 1, 1 << 22, 1 << 30),
+    ] {
+        let answer = ByteCount { refusal: 0, bytes: holds };
+        assert_eq!(raw::chunk_size(requested, blocksize), answer, "{requested}, {blocksize}");
+    }
+    for (requested, blocksize, refusal) in [
+        (0, 0, 5),
+        (7, 0, 5),
+        (512, 768, 5),
+        (u64::MAX, u32::MAX, 5),
+        (0, 512, 9),
+        ((1 << 30) + 1, 512, 9),
+        (u64::MAX, 1 << 22, 9),
+    ] {
+        let answer = ByteCount { refusal, bytes: 0 };
+        assert_eq!(raw::chunk_size(requested, blocksize), answer, "{requested}, {blocksize}");
+    }
 }
 
 #[test]
@@ -159,7 +192,7 @@ fn refused_calls_hand_back_zeros_or_what_they_were_given() {
 
 #[test]
 fn reads_test_the_record_and_the_memory_first() {
-    let mut table = vec![0; 4];
+    let mut table = vec![0; 2];
     let loaded = raw::load(SAMPLE, &mut table).loaded;
     let short = &SAMPLE[..SAMPLE.len() - 1];
     let numbers = |loaded: &Loaded, image, table: &[i64]| {
@@ -167,11 +200,12 @@ fn reads_test_the_record_and_the_memory_first() {
         let copied = raw::read(loaded, image, table, 0, 0, &mut []).refusal;
         [placed, copied, raw::total(loaded, image, table, 0).refusal]
     };
-    let fewer = LoadedNumbers { maxchunks: 1, ..loaded.numbers };
+    let fewer = LoadedNumbers { maxchunks: 0, ..loaded.numbers };
     assert_eq!(numbers(&Loaded { numbers: fewer, ..loaded }, SAMPLE, &table), [17; 3]);
     assert_eq!(numbers(&loaded, short, &table), [18; 3]);
-    assert_eq!(numbers(&loaded, SAMPLE, &table[..3]), [18; 3]);
-    assert_eq!(numbers(&loaded, SAMPLE, &[501, -1, 1, -1]), [19; 3]);
+    assert_eq!(numbers(&loaded, SAMPLE, &table[..1]), [18; 3]);
+    assert_eq!(numbers(&loaded, SAMPLE, &[513, -1]), [19; 3]);
+    assert_eq!(numbers(&loaded, SAMPLE, &[512, -1]), [14; 3]);
     assert_eq!(numbers(&loaded, SAMPLE, &table), [14; 3]);
 }
 

@@ -13,7 +13,7 @@ fn the_papers_session() {
     assert_eq!(opening(&paper(), 6207, 6), Err(Refusal::TooShort));
     assert_eq!(opening(&paper(), 6208, 5), Err(Refusal::TooShort));
     for order in ORDERS {
-        assert_eq!(paper_container(order).len(), 4656);
+        assert_eq!(paper_container(order).len(), 3104);
     }
 }
 
@@ -26,19 +26,32 @@ fn the_papers_container_is_the_independent_programs() {
         session.write(1, part).unwrap();
     }
     assert_eq!(session.close().unwrap(), SAMPLE);
-    assert_eq!(table, [500, -1, 1, -1, -1, -1]);
+    assert_eq!(table, [501, -1, -1, -1, -1, -1]);
 }
 
 #[test]
-fn requests_of_1_and_500_fill_two_chunks_of_500() {
+fn requests_of_1_and_512_begin_two_chunks_of_512() {
     let plan = Plan::new(512).blocks(2).task(0, 500);
     let (mut image, mut table) = memory(&plan);
     let mut session = plan.open(&mut image, &mut table).unwrap();
     let too_long = Err(Refusal::TooLong);
-    let room = [(501, too_long), (1, Ok(())), (501, too_long), (500, Ok(()))];
-    let full = [(1, Err(Refusal::NoChunkLeft)), (501, too_long), (0, Ok(()))];
+    let room = [(513, too_long), (1, Ok(())), (513, too_long), (512, Ok(()))];
+    let full = [(1, Err(Refusal::NoChunkLeft)), (513, too_long), (0, Ok(()))];
     for (length, answer) in room.into_iter().chain(full) {
         assert_eq!(session.write(1, &bytes(length)), answer, "{length} bytes");
+    }
+}
+
+#[test]
+fn a_request_has_at_most_what_a_chunk_holds() {
+    for (requested, holds) in [(1, 512), (511, 512), (512, 512), (513, 1024), (1024, 1024)] {
+        let plan = Plan::new(512).task(0, requested);
+        let (mut image, mut table) = memory(&plan);
+        let mut session = plan.open(&mut image, &mut table).unwrap();
+        assert_eq!((session.requested_size(1), session.chunk_size(1)), (Ok(requested), Ok(holds)));
+        assert_eq!(session.write(1, &bytes(holds as usize + 1)), Err(Refusal::TooLong));
+        assert_eq!(session.write(1, &bytes(holds as usize)), Ok(()));
+        assert_eq!(session.write(1, b"x"), Err(Refusal::NoChunkLeft));
     }
 }
 
@@ -97,15 +110,15 @@ fn written(hostile: bool) -> (Vec<u8>, Vec<i64>) {
                 assert_eq!(session.write(task, b"x"), Err(Refusal::NoTask));
                 assert_eq!(session.write(task, b""), Err(Refusal::NoTask));
             }
-            assert_eq!(session.write(1, &bytes(501)), Err(Refusal::TooLong));
+            assert_eq!(session.write(1, &bytes(513)), Err(Refusal::TooLong));
             assert_eq!(session.write(2, b""), Ok(()));
         }
         assert_eq!([session.chunks_begun(1), session.chunks_begun(2)], begun);
     }
     if hostile {
-        assert_eq!(session.write(1, &bytes(101)), Err(Refusal::NoChunkLeft));
+        assert_eq!(session.write(1, &bytes(113)), Err(Refusal::NoChunkLeft));
     }
-    session.write(1, &bytes(100)).unwrap();
+    session.write(1, &bytes(112)).unwrap();
     session.close().unwrap();
     (image, table)
 }
@@ -120,7 +133,12 @@ fn a_session_says_what_it_has() {
     let (mut image, mut table) = memory(&paper());
     let mut session = paper().open(&mut image, &mut table).unwrap();
     assert_eq!((session.tasks(), session.blocks()), (2, 3));
-    assert_eq!((session.chunk_size(1), session.chunk_size(2)), (Ok(500), Ok(600)));
+    assert_eq!((session.requested_size(1), session.requested_size(2)), (Ok(500), Ok(600)));
+    assert_eq!((session.chunk_size(1), session.chunk_size(2)), (Ok(512), Ok(1024)));
+    for task in [0, 3, u64::MAX] {
+        assert_eq!(session.requested_size(task), Err(Refusal::NoTask));
+        assert_eq!(session.chunk_size(task), Err(Refusal::NoTask));
+    }
     session.write(2, b"x").unwrap();
     assert_eq!((session.chunks_begun(1), session.chunks_begun(2)), (Ok(0), Ok(1)));
     assert_eq!(
@@ -129,6 +147,27 @@ fn a_session_says_what_it_has() {
     );
     let shown = format!("{session:?}");
     assert_eq!(shown, "Session { tasks: 2, blocks: 3, chunks_begun: [0, 1], .. }");
+}
+
+#[test]
+fn a_chunk_size_goes_by_the_blocksize() {
+    for (blocksize, requested, holds) in
+        [(1024, 1025, 2048), (4096, 1500, 4096), (65_536, 1, 65_536)]
+    {
+        let plan = Plan::new(blocksize).task(0, requested);
+        let (mut image, mut table) = memory(&plan);
+        let mut session = plan.open(&mut image, &mut table).unwrap();
+        assert_eq!(session.chunk_size(1), Ok(holds));
+        assert_eq!(session.write(1, &bytes(holds as usize + 1)), Err(Refusal::TooLong));
+        assert_eq!(session.write(1, &bytes(holds as usize)), Ok(()));
+        let mut table = common::table();
+        let container = Container::load(session.close().unwrap(), &mut table).unwrap();
+        let task = container.task(1).unwrap();
+        assert_eq!(
+            (task.requested_size(), task.chunk_size(), task.total()),
+            (requested, holds, holds)
+        );
+    }
 }
 
 #[test]
@@ -150,17 +189,18 @@ fn an_empty_session_makes_an_empty_container() {
 /// A night: six tasks in four blocks, requests of many lengths by turns, until each task was refused for room.
 fn night(order: ByteOrder) -> (Vec<u8>, Vec<Vec<Vec<u8>>>) {
     let sizes = [1, 100, 511, 512, 513, 2000];
-    let tasks = (0..).zip(sizes).map(|(task, size)| (9 - task, size as u64));
+    let holds = [512, 512, 512, 512, 1024, 2048];
+    let tasks = (0..).zip(sizes).map(|(task, size)| (9 - task, size));
     let plan = Plan::new(512).byte_order(order).version(-1, i32::MIN).blocks(4).tasks(tasks);
     let (mut image, mut table) = memory(&plan);
     let mut session = plan.open(&mut image, &mut table).unwrap();
     let (mut chunks, mut full) = (vec![Vec::<Vec<u8>>::new(); 6], [false; 6]);
     for turn in 0.. {
         let task = turn % 6;
-        let request = bytes(1 + turn * 37 % sizes[task]);
+        let request = bytes(1 + turn * 37 % holds[task]);
         match session.write(task as u64 + 1, &request) {
             Ok(()) => match chunks[task].last_mut() {
-                Some(chunk) if chunk.len() + request.len() <= sizes[task] => chunk.extend(request),
+                Some(chunk) if chunk.len() + request.len() <= holds[task] => chunk.extend(request),
                 _ => chunks[task].push(request),
             },
             Err(refusal) => {

@@ -6,14 +6,14 @@ use common::*;
 use lapurmihi::{Container, Plan, Refusal, Task};
 use std::io::{BufRead, ErrorKind, Read, Seek, SeekFrom};
 
-/// Where the sample's META2 says how many bytes the first chunk of task 1 has.
+/// Where META2 of the container with two chunks says how many bytes the first of them has.
 const FIRST: usize = 4624;
 
-/// Runs a check of a task with chunks of 7, 30, 24, 30 and 30 bytes, given these bytes too.
+/// Runs a check of a task with chunks of 7, 512, 506, 512 and 512 bytes, given these bytes too.
 fn on_task(check: impl Fn(Task, &[u8])) {
-    let all = bytes(7 + 30 + 24 + 30 + 1 + 29);
+    let all = bytes(7 + 512 + 506 + 512 + 1 + 511);
     let (mut requests, mut rest) = (vec![], &all[..]);
-    for length in [7, 30, 24, 30, 1, 29] {
+    for length in [7, 512, 506, 512, 1, 511] {
         let (request, behind) = rest.split_at(length);
         requests.push((2, request));
         rest = behind;
@@ -66,7 +66,7 @@ fn each_chunk_is_lent() {
 
 #[test]
 fn a_chunk_without_bytes_is_passed_over() {
-    let (mut container, mut table) = (SAMPLE.to_vec(), table());
+    let (mut container, mut table) = (BEFORE.to_vec(), table());
     container[FIRST..FIRST + 8].fill(0);
     let container = Container::load(&container, &mut table).unwrap();
     let task = container.task(1).unwrap();

@@ -24,15 +24,25 @@ fn full(error: io::Error) -> Refusal {
 
 #[test]
 fn every_chunk_is_filled_and_every_byte_past_them_is_told() {
-    for (size, length) in (1..=12).flat_map(|size| (1..=40).map(move |length| (size, length))) {
-        let all = bytes(size * 4 + length);
-        let chunks = night(&Plan::new(512).blocks(4).task(0, size as u64), |session| {
-            let mut writer = session.writer(1).unwrap();
-            let refused = all.chunks(length).find_map(|part| writer.write_all(part).err());
-            assert_eq!(refused.map(full), Some(Refusal::NoChunkLeft));
-            assert_eq!(writer.stored(), size as u64 * 4);
-        });
-        assert!(chunks[0].iter().eq(all.chunks(size).take(4)), "{length} bytes at a time");
+    let lengths = [7, 100, 511, 512, 513, 1024, 3000];
+    for (blocksize, requested, holds) in [
+        (512, 1, 512),
+        (512, 500, 512),
+        (512, 512, 512),
+        (512, 513, 1024),
+        (4096, 1500, 4096),
+        (4096, 4097, 8192),
+    ] {
+        for length in lengths {
+            let all = bytes(holds * 4 + length);
+            let chunks = night(&Plan::new(blocksize).blocks(4).task(0, requested), |session| {
+                let mut writer = session.writer(1).unwrap();
+                let refused = all.chunks(length).find_map(|part| writer.write_all(part).err());
+                assert_eq!(refused.map(full), Some(Refusal::NoChunkLeft));
+                assert_eq!(writer.stored(), holds as u64 * 4);
+            });
+            assert!(chunks[0].iter().eq(all.chunks(holds).take(4)), "{length} bytes at a time");
+        }
     }
 }
 
@@ -41,13 +51,13 @@ fn a_write_says_what_it_stored() {
     night(&paper(), |session| {
         let mut writer = session.writer(2).unwrap();
         assert_eq!(writer.write(&bytes(250)).unwrap(), 250);
-        assert_eq!(writer.write(&bytes(1000)).unwrap(), 350);
-        assert_eq!(writer.write(&bytes(1000)).unwrap(), 600);
-        assert_eq!(writer.write(&bytes(1000)).unwrap(), 600);
+        assert_eq!(writer.write(&bytes(1000)).unwrap(), 774);
+        assert_eq!(writer.write(&bytes(2000)).unwrap(), 1024);
+        assert_eq!(writer.write(&bytes(2000)).unwrap(), 1024);
         assert_eq!(full(writer.write(&bytes(1)).unwrap_err()), Refusal::NoChunkLeft);
         assert_eq!(writer.write(b"").unwrap(), 0);
         writer.flush().unwrap();
-        assert_eq!(writer.stored(), 1800);
+        assert_eq!(writer.stored(), 3072);
     });
 }
 
@@ -55,18 +65,20 @@ fn a_write_says_what_it_stored() {
 fn requests_between_are_counted_and_refused_ones_are_not() {
     let plan = Plan::new(512).blocks(4).task(0, 10).task(1, 10);
     let chunks = night(&plan, |session| {
-        session.write(1, b"1234567").unwrap();
+        session.write(1, &[b'a'; 509]).unwrap();
         session.writer(2).unwrap().write_all(b"xy").unwrap();
-        assert_eq!(session.write(1, &[0; 11]), Err(Refusal::TooLong));
+        assert_eq!(session.write(1, &[0; 513]), Err(Refusal::TooLong));
         session.write(1, b"").unwrap();
-        session.writer(1).unwrap().write_all(b"8901").unwrap();
-        session.write(1, b"whole line").unwrap();
-        session.write(2, b"12345678").unwrap();
+        session.writer(1).unwrap().write_all(b"1234").unwrap();
+        session.write(1, &[b'w'; 512]).unwrap();
+        session.write(2, &[b'b'; 510]).unwrap();
         session.writer(1).unwrap().write_all(b"end").unwrap();
         session.writer(2).unwrap().write_all(b"z").unwrap();
     });
-    assert_eq!(chunks[0], [&b"1234567890"[..], b"1", b"whole line", b"end"]);
-    assert_eq!(chunks[1], [&b"xy12345678"[..], b"z"]);
+    let (first, second) =
+        ([&[b'a'; 509][..], b"123"].concat(), [&b"xy"[..], &[b'b'; 510]].concat());
+    assert_eq!(chunks[0], [&first[..], b"4", &[b'w'; 512], b"end"]);
+    assert_eq!(chunks[1], [&second[..], b"z"]);
 }
 
 #[test]
@@ -77,9 +89,9 @@ fn a_copy_that_fails_can_go_on_where_it_stopped() {
         let mut reader = Cursor::new(&all);
         let mut writer = session.writer(1).unwrap();
         assert_eq!(full(io::copy(&mut reader, &mut writer).unwrap_err()), Refusal::NoChunkLeft);
-        assert_eq!(writer.stored(), 40_000);
+        assert_eq!(writer.stored(), 40_960);
         reader.set_position(writer.stored());
-        assert_eq!(io::copy(&mut reader, &mut session.writer(2).unwrap()).unwrap(), 30_000);
+        assert_eq!(io::copy(&mut reader, &mut session.writer(2).unwrap()).unwrap(), 29_040);
     });
     assert_eq!(chunks.concat().concat(), all);
 }
@@ -88,13 +100,13 @@ fn a_copy_that_fails_can_go_on_where_it_stopped() {
 fn formatted_text_and_buffers() {
     let chunks = night(&Plan::new(512).blocks(3).task(0, 7), |session| {
         let mut writer = session.writer(1).unwrap();
-        write!(writer, "{:02}:{} to Lindau", 5, 12).unwrap();
+        write!(writer, "{:02}:{}{:>1525}", 5, 12, " to Lindau").unwrap();
         let mut buffer = BufWriter::new(&mut writer);
         buffer.write_all(b"05:40 to Ulm").unwrap();
         assert_eq!(full(buffer.into_inner().unwrap_err().into()), Refusal::NoChunkLeft);
-        assert_eq!(writer.stored(), 21);
+        assert_eq!(writer.stored(), 1536);
     });
-    assert_eq!(chunks[0].concat(), b"05:12 to Lindau05:40 ");
+    assert_eq!(chunks[0].concat(), format!("05:12{:>1525}05:40 ", " to Lindau").as_bytes());
 }
 
 #[test]

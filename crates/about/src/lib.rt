@@ -1,20 +1,51 @@
-// A loaded container as a whole: its length in the image, and its filename prefix.
+// What a chunk holds; and a loaded container as a whole: its length in the image, and its filename prefix.
 ghost use mathlib.Core.Path.{_≡_};
 ghost use Prim.Native.Nat.{_+_, _≤_};
+ghost use lib.IntN.{pos};
 ghost use lib.ListN.{length};
+ghost use Rattle.endian.specs.Signed.{within};
 ghost use Rattle.format.specs.declared.loaded.Loaded.{Loaded};
 ghost use Rattle.format.specs.declared.loaded.Part.{Part};
 ghost use Rattle.format.specs.declared.loaded.ByteCount.{ByteCount};
-ghost use Rattle.format.specs.Limits.{maxBlocks, Sound};
+ghost use Rattle.format.specs.Limits.{maxSize, maxBlocks, Sound};
 ghost use Rattle.format.specs.Record.{allLists, sizesOf, sizeOf, endAt};
 ghost use Rattle.format.specs.Reads.{containerOf};
-ghost use Rattle.format.specs.About.{beforeZero, lengthAnswer, prefixAnswer};
+ghost use Rattle.format.specs.About.{chunkSizeAnswer, beforeZero, lengthAnswer, prefixAnswer};
 use format::field;
 use format::head;
 use format::head::LISTS;
+use format::limit;
 use format::loaded::ByteCount;
 use format::loaded::Loaded;
 use format::loaded::Part;
+use format::refusal;
+use rules::limits;
+
+fn size_ok(size: u64) -> bool
+    ensures { λ r. ⌜ r ≡ within 1 maxSize (pos size) ⌝ }
+{
+    1 <= size && size <= limit::MAX_SIZE
+}
+
+// What a chunk of a task with this requested size holds.
+pub fn chunk_size(size: u64, blocksize: u32) -> ByteCount
+    ensures { λ r. ⌜ r ≡ chunkSizeAnswer size blocksize ⌝ }
+{
+    if !limits::blocksize_ok(blocksize) {
+        return ByteCount {
+            refusal: refusal::BAD_BLOCKSIZE,
+            bytes: 0,
+        };
+    }
+    if !size_ok(size) {
+        return ByteCount {
+            refusal: refusal::BAD_SIZE,
+            bytes: 0,
+        };
+    }
+    let bytes = layout::chunk_holds(size, blocksize);
+    ByteCount { refusal: 0, bytes }
+}
 
 // Where META2 ends, by a record that passed the tests.
 fn end_of(l: Loaded, lists: &[u64]) -> u64

@@ -176,7 +176,8 @@ module _ (o : Opening) (st : State) (c : Closable o st) where
 
   pub used-small : (i k : ℕ) → i < tasks o → k < countOf (st .lists) i → natural (valueIn o st k i) ≤ maxSize
   used-small i k l u =
-      omega (arith, in-range i k l u .2, capacity-small (o .plan .blocksize) (entry (o .sizes) i) (sound-size (plan-sound o (c .plan)) i l .1))
+      let sound = plan-sound o (c .plan) in
+      omega (arith, in-range i k l u .2, capacity-small (o .plan .blocksize) (entry (o .sizes) i) (sound .block) (sound-size sound i l .1))
 
   -- ---- the image, whatever follows it
 

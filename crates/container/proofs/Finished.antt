@@ -105,7 +105,7 @@ module _ (o : Opening) (image : List ℕ) (table : List ℤ) (qs : List Request)
       let most = greatest-ge (begunBy s qs) (tasks o) (task - 1) (omega (arith, there .low, there .top)) in
       let start = chunk-after-data (o .plan .blocksize) (tasks o) (entry (o .sizes)) task k in
       let end =
-      chunk-before-meta2 (o .plan .blocksize) (tasks o) (entry (o .sizes)) task k (Close.maxchunksUsed st) some-block (there .low) (there .top) (there .one)
+      chunk-before-meta2 (o .plan .blocksize) (tasks o) (entry (o .sizes)) task k (Close.maxchunksUsed st) (there .low) (there .top) (there .one)
       (omega (arith, used-is)) in
       between-kept o st c at (omega (arith, before-data)) (omega (arith, there .fits)) ∙ claim .placed .placed-at landed
 

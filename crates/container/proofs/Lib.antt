@@ -8,4 +8,5 @@ pub mod Starts
 pub mod WrittenBack
 pub mod Rooms
 pub mod Finished
+pub mod Earlier
 pub mod Main

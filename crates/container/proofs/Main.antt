@@ -10,7 +10,7 @@ use Rattle.container.specs.Refusing.{Refusals}
 use Rattle.container.specs.Main.{Promises}
 use Rattle.format.proofs.Only.{only}
 use Rattle.format.proofs.Every.{every, says}
-use Rattle.container.proofs.Refusing.{load-number, load-refuses, chunk-refuses, chunk-judged, part-number, part-refuses, part-there, total-refuses, total-judged, read-refuses, read-judged, length-refuses, length-judged, prefix-refuses, prefix-judged, open-number, needs-refuses, needs-says, open-refuses, write-refuses, write-judged, close-refuses, close-judged, flag-ends}
+use Rattle.container.proofs.Refusing.{load-number, load-refuses, chunk-refuses, chunk-judged, part-number, part-refuses, part-there, total-refuses, total-judged, read-refuses, read-judged, size-refuses, length-refuses, length-judged, prefix-refuses, prefix-judged, open-number, needs-refuses, needs-says, open-refuses, write-refuses, write-judged, close-refuses, close-judged, flag-ends}
 use Rattle.format.proofs.Outcomes.{empty-keeps}
 use Rattle.container.proofs.ReadsBack.{reads-back, refuses-back}
 use Rattle.container.proofs.Opens.{opens-exactly}
@@ -19,6 +19,7 @@ use Rattle.container.proofs.Starts.{is-start, has-front}
 use Rattle.container.proofs.WrittenBack.{written-back}
 use Rattle.container.proofs.Rooms.{room, alike}
 use Rattle.container.proofs.Finished.{finished}
+use Rattle.container.proofs.Earlier.{stays-acceptable}
 
 refusals : Refusals
 refusals = record {
@@ -27,6 +28,7 @@ refusals = record {
   part-refuses = part-refuses;
   total-refuses = total-refuses;
   read-refuses = read-refuses;
+  size-refuses = size-refuses;
   length-refuses = length-refuses;
   prefix-refuses = prefix-refuses;
   needs-refuses = needs-refuses;
@@ -65,6 +67,7 @@ promises = record {
         reads-back image (c .says) (c .first) (c .second) table zero,
         refuses-back image (c .says) (c .first) (c .second) table zero,
       );
+  stays-acceptable = stays-acceptable;
   part-there = part-there;
   opens-exactly = opens-exactly;
   opening-stores = opening-stores;

@@ -19,6 +19,7 @@ use Rattle.format.specs.Meta2.{valueIndex, unused}
 use Rattle.format.specs.Record.{cell, rankOf, sizeOf, countOf, startOf, endAt, headSound, cellsAgree}
 use Rattle.format.proofs.Refusals.{first-passes, first-fails, when-accepted}
 use Rattle.format.proofs.Rules.{values-agree}
+use Rattle.format.proofs.About.{size-bounded}
 use Rattle.format.proofs.Stripes.{length-lists, rank-made, size-made, count-made}
 use Rattle.format.proofs.Record.{order-sound, holds-agree, startOf-agree, endAt-agree}
 use Rattle.format.specs.declared.loaded.Loaded.{Loaded}
@@ -26,7 +27,7 @@ use Rattle.format.specs.Loaded.{loadedSound, loadedOf}
 use Rattle.format.specs.Container.{Contents, HasMeta1, HasMeta2, Says}
 use Rattle.format.specs.Load.{loadRefusal, loadAnswer, loadTable}
 use Rattle.format.specs.Reads.{Container, containerOf, loadedTests, readTests, chunksUsed, writtenIn, chunkBytes, chunkRefusal, chunkPart, streamOf, totalOf, totalAnswer, readRefusal, readAnswer, readOutput, loadedFrom}
-use Rattle.format.specs.About.{wholeRefusal, lengthAnswer, prefixAnswer}
+use Rattle.format.specs.About.{chunkSizeAnswer, wholeRefusal, lengthAnswer, prefixAnswer}
 use Rattle.container.specs.Format.{bytesSaid, streamSaid, totalSaid, ReadsBack, RefusesBack}
 use Rattle.format.proofs.InBounds.{block-kept, tasks-kept, ranks-kept, sizes-kept}
 use Rattle.format.proofs.Every.{headSaid, listsSaid, few, maxchunks-kept, counts-kept, values-kept, loaded-is, lists-are, table-long, says}
@@ -145,6 +146,7 @@ module _ (image : List ℕ) (s : Contents) (one : HasMeta1 image s) (two : HasMe
     ends =
         when-accepted _ _ _ loaded-passes
         ∙ ap (counted 0) (endAt-agree (headSaid s) (sizeOf (listsSaid s)) (s .size) size-is (s .maxchunks));
+    sizes = λ i l. ap (λ (size : ℕ). chunkSizeAnswer size (s .blocksize)) (size-is i l) ∙ size-bounded (one .bounds) i l;
     prefixed = when-accepted _ _ _ loaded-passes;
   }
 

@@ -24,8 +24,8 @@ use Rattle.format.proofs.Opening.{needs-number, needs-refused, open-plan, open-
 use Rattle.format.proofs.Outcomes.{refused-keeps}
 use Rattle.format.specs.Load.{loadRefusal, checkAnswer, loadAnswer, loadTable}
 use Rattle.format.specs.Reads.{Container, loadedTests, readTests, chunkRefusal, chunkBytes, chunkPart, chunkPlace, partAnswer, totalAnswer, readRefusal, readAnswer, readOutput}
-use Rattle.container.specs.Refusing.{loadNumbers, chunkNumbers, readNumbers, totalNumbers, needsNumbers, openNumbers, writeNumbers, recordNumbers, LoadRefuses, ChunkRefuses, PartRefuses, TotalRefuses, ReadRefuses, LengthRefuses, PrefixRefuses, NeedsRefuses, NeedsSays, OpenRefuses, WriteRefuses, CloseRefuses, Ended}
-use Rattle.format.specs.About.{wholeRefusal, lengthAnswer, prefixAnswer}
+use Rattle.container.specs.Refusing.{loadNumbers, chunkNumbers, readNumbers, totalNumbers, needsNumbers, openNumbers, writeNumbers, sizeNumbers, recordNumbers, LoadRefuses, ChunkRefuses, PartRefuses, TotalRefuses, ReadRefuses, SizeRefuses, LengthRefuses, PrefixRefuses, NeedsRefuses, NeedsSays, OpenRefuses, WriteRefuses, CloseRefuses, Ended}
+use Rattle.format.specs.About.{sizeTests, chunkSizeAnswer, wholeRefusal, lengthAnswer, prefixAnswer}
 use Rattle.container.specs.Format.{PartThere}
 use Rattle.format.specs.Accepted.{SessionJudged, LoadedJudged}
 use Rattle.lists.specs.Logic.{OneOf, Not}
@@ -204,6 +204,22 @@ module _ (o : Opening) where
   needs-refuses = record {
     numbered = rw (needs-number o) needs-listed;
     moves-nothing = λ l. rw (needs-refused o (rw (needs-number o) at l));
+  }
+
+module _ (size blocksize : ℕ) where
+  size-listed : OneOf (0 ∷ sizeNumbers) (firstFailing (sizeTests size blocksize))
+  unfolding sizeTests listed
+  size-listed = one-of-tests sizeNumbers _ (refl, (refl, tt))
+
+  size-number : chunkSizeAnswer size blocksize .refusal ≡ firstFailing (sizeTests size blocksize)
+  unfolding chunkSizeAnswer
+  size-number = number-is (firstFailing (sizeTests size blocksize)) _ _ (λ (a : ByteCount). a .refusal) refl refl
+
+  pub size-refuses : SizeRefuses size blocksize
+  unfolding chunkSizeAnswer
+  size-refuses = record {
+    numbered = rw size-number size-listed;
+    moves-nothing = λ l. ap (λ (a : ByteCount). a .bytes) (when-refused _ _ _ (rw size-number at l));
   }
 
 module _ (o : Opening) (image : List ℕ) (table : List ℤ) where

@@ -76,11 +76,10 @@ module _ (o : Opening) (st : State) (c : Closable o st) (tail : List ℕ) (i k :
   top : start + size ≤ meta2Start (o .plan .blocksize) (tasks o) (entry (o .sizes)) (Close.maxchunksUsed st)
   top =
       let z : i + 1 - 1 ≡ i = omega arith in
-      let f = blocksize-facts (o .plan .blocksize) (c .plan .block) in
       let there : k + 1 ≤ Close.maxchunksUsed st = omega (arith, closed-most o st c i l) in
       let inside =
       chunk-before-meta2 (o .plan .blocksize) (tasks o) (entry (o .sizes)) (i + 1) (k + 1) (Close.maxchunksUsed st)
-      (omega arith) (omega arith) (omega arith) (omega arith) there in
+      (omega arith) (omega arith) (omega arith) there in
       omega (arith, in-range o st c i k l u .2, rw z at inside)
 
   pub bytes-same : bytesSaid (closedAs st tail) (contentsOf o st) i k ≡ bytesIn st i k

@@ -8,7 +8,7 @@ use lib.IntN.{ℤ}
 use lib.ListN.{length, getD, take, drop, replicate}
 use Rattle.lists.specs.Below.{sumBelow, joinBelow}
 use Rattle.lists.specs.Splice.{splice}
-use Rattle.format.specs.Layout.{meta1End, dataStart, chunkStart, meta2End}
+use Rattle.format.specs.Layout.{meta1End, dataStart, capacity, chunkStart, meta2End}
 use Rattle.format.specs.Meta1.{prefixAt, prefixLength, lastAt, lastFields, meta1}
 use Rattle.format.specs.Meta2.{unused, meta2}
 use Rattle.format.specs.Record.{entry, cell, sizeOf, countOf, isBig, meta2At, endAt}
@@ -20,7 +20,8 @@ use Rattle.format.specs.Container.{Contents, IsContainer, Says, Lists, HeadSays
 use Rattle.format.specs.Accepted.{bytesFor, GoodPlan, GoodOpening}
 use Rattle.format.specs.Load.{loadAnswer, loadTable}
 use Rattle.format.specs.Reads.{Container, chunkRefusal, chunkPart, partAnswer, totalAnswer, readAnswer, readOutput}
-use Rattle.format.specs.About.{beforeZero, lengthAnswer, prefixAnswer}
+use Rattle.format.specs.About.{chunkSizeAnswer, beforeZero, lengthAnswer, prefixAnswer}
+use Rattle.format.specs.Tally.{termsOf}
 use Rattle.lists.specs.Logic.{Exactly}
 
 -- accepted exactly when the image is a container and the table has a cell for each of its values: both directions, and what is handed back
@@ -47,8 +48,8 @@ streamSaid image c i = joinBelow (c .count i) (bytesSaid image c i)
 unfoldable pub totalSaid : Contents → ℕ → ℕ
 totalSaid c i = sumBelow (c .count i) (λ k. c .written k i)
 
--- every used chunk, every total and every stream from every place in it; of a chunk, also that all of its bytes are there; then the container's
--- length, and its prefix without the zeros that follow it
+-- every used chunk, every total and every stream from every place in it; of a chunk, also that all of its bytes are there; then what each task's
+-- chunks hold, the container's length, and its prefix without the zeros that follow it
 pub record ReadsBack (image : List ℕ) (c : Contents) (loaded : Container) : Type 0 where
   pub chunks : (i k : ℕ) → i < c .n → k < c .count i → chunkRefusal loaded (i + 1) (k + 1) ≡ 0
   pub parts : (i k : ℕ) → i < c .n → k < c .count i → chunkPart loaded (i + 1) (k + 1) ≡ bytesSaid image c i k
@@ -58,6 +59,9 @@ pub record ReadsBack (image : List ℕ) (c : Contents) (loaded : Container) : Ty
       → readAnswer loaded (i + 1) p out ≡ record { refusal = 0; bytes = min (length out) (totalSaid c i - p) }
   pub streams : (i p : ℕ) → (out : List ℕ) → i < c .n → p ≤ totalSaid c i
       → readOutput loaded (i + 1) p out ≡ splice out 0 (take (length out) (drop p (streamSaid image c i)))
+  pub sizes : (i : ℕ) → i < c .n
+      → chunkSizeAnswer (sizeOf (loaded .lists) i) (loaded .loaded .head .blocksize)
+      ≡ record { refusal = 0; bytes = capacity (c .blocksize) (c .size i) }
   pub ends : lengthAnswer loaded ≡ record { refusal = 0; bytes = meta2End (c .blocksize) (c .n) (c .size) (c .maxchunks) }
   pub prefixed : prefixAnswer loaded
       ≡ record { refusal = 0; start = prefixAt; length = beforeZero (take prefixLength (drop prefixAt image)) }
@@ -71,13 +75,16 @@ pub record RefusesBack (c : Contents) (loaded : Container) : Type 0 where
 
 -- ---- demand 2 (b): which openings are accepted, and what any accepted opening and any accepted close store, whatever came in
 
--- opening answers 0 exactly where its arguments keep the rules, and so does `needs`, which then says how much is to be lent
+-- opening answers 0 exactly where its arguments keep the rules, and so does `needs`, which then says how much is to be lent; and what is
+-- answered for a task's chunk size is the tally's c
 pub record OpensExactly (o : Opening) (image : List ℕ) (table : List ℤ) : Type 0 where
   pub opens : Exactly (openAnswer o image table .refusal ≡ 0) (GoodOpening o image table)
   pub plans : Exactly (needsAnswer o .refusal ≡ 0) (GoodPlan o)
   pub needed : GoodPlan o
       → (needsAnswer o .image ≡ bytesFor (o .plan .blocksize) (tasks o) (entry (o .sizes)) (o .plan .planned))
       × (needsAnswer o .cells ≡ tasks o * o .plan .planned)
+  pub sized : GoodPlan o → (task : ℕ) → 1 ≤ task → task ≤ tasks o
+      → chunkSizeAnswer (entry (o .sizes) (task - 1)) (o .plan .blocksize) ≡ record { refusal = 0; bytes = termsOf o .c task }
 
 -- the record of an opening says what the opening was given; no chunk is begun, and it is not marked closed
 pub record Begun (o : Opening) (s : Session) (lists : List ℕ) : Type 0 where

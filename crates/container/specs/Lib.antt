@@ -3,4 +3,5 @@ pub mod Format
 pub mod Start
 pub mod WrittenBack
 pub mod Room
+pub mod Earlier
 pub mod Main

@@ -7,7 +7,7 @@ use Rattle.format.specs.Session.{State}
 use Rattle.format.specs.Open.{Opening}
 use Rattle.format.specs.Write.{Request, refusals}
 use Rattle.format.specs.Close.{maxchunksUsed, closeAnswer}
-use Rattle.format.specs.Container.{IsContainer}
+use Rattle.format.specs.Container.{IsContainer, WasContainer}
 use Rattle.format.specs.Load.{loadAnswer}
 use Rattle.format.specs.Reads.{Container, loadedFrom}
 use Rattle.container.specs.Start.{Start, IsStart, HasFront, VersionsFit, Opens, openedStart, after, mostBegun}
@@ -15,6 +15,7 @@ use Rattle.container.specs.Refusing.{Refusals}
 use Rattle.container.specs.Format.{AcceptsExactly, PartThere, ReadsBack, RefusesBack, OpensExactly, OpeningStores, CloseStores}
 use Rattle.container.specs.WrittenBack.{Finished, WrittenBack}
 use Rattle.container.specs.Room.{Claim, Alike}
+use Rattle.container.specs.Earlier.{StaysAcceptable}
 
 pub record Promises : Type 0 where
   -- demand 1: any bytes and any request
@@ -23,6 +24,7 @@ pub record Promises : Type 0 where
   pub accepts-exactly : (image : List ℕ) → (table : List ℤ) → AcceptsExactly image table
   pub reads-back : (image : List ℕ) → (table : List ℤ) → (c : IsContainer image) → loadAnswer image table .refusal ≡ 0
       → ReadsBack image (c .says) (loadedFrom image table) × RefusesBack (c .says) (loadedFrom image table)
+  pub stays-acceptable : (image : List ℕ) → (was : WasContainer image) → StaysAcceptable image was
   pub part-there : (c : Container) → (task chunk : ℕ) → PartThere c task chunk
   pub opens-exactly : (o : Opening) → (image : List ℕ) → (table : List ℤ) → OpensExactly o image table
   pub opening-stores : (o : Opening) → (image : List ℕ) → (table : List ℤ) → Opens o image table → OpeningStores o image table

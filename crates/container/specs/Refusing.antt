@@ -17,7 +17,7 @@ use Rattle.format.specs.Loaded.{noLoaded}
 use Rattle.format.specs.Accepted.{LoadedJudged, SessionJudged}
 use Rattle.format.specs.Load.{loadAnswer, loadTable}
 use Rattle.format.specs.Reads.{Container, chunkRefusal, chunkPart, partAnswer, totalAnswer, readAnswer, readOutput}
-use Rattle.format.specs.About.{lengthAnswer, prefixAnswer}
+use Rattle.format.specs.About.{chunkSizeAnswer, lengthAnswer, prefixAnswer}
 use Rattle.lists.specs.Logic.{OneOf, Not}
 
 -- said once for any entry: its numbers, its answer, and what the call leaves, which after a refusal is what came, with zeros for what is handed back
@@ -48,6 +48,10 @@ needsNumbers = 2 ∷ 5 ∷ 6 ∷ 21 ∷ 8 ∷ 9 ∷ 20 ∷ []
 abbrev pub writeNumbers : List ℕ
 writeNumbers = 17 ∷ 18 ∷ 19 ∷ 14 ∷ 15 ∷ 16 ∷ []
 
+-- of what a chunk holds
+abbrev pub sizeNumbers : List ℕ
+sizeNumbers = 5 ∷ 9 ∷ []
+
 -- of a close, and of the length and the prefix of a loaded container
 abbrev pub recordNumbers : List ℕ
 recordNumbers = 17 ∷ 18 ∷ 19 ∷ []
@@ -72,6 +76,9 @@ TotalRefuses c task = Refuses totalNumbers (totalAnswer c task .refusal) (totalA
 abbrev pub ReadRefuses : Container → ℕ → ℕ → List ℕ → Type 0
 ReadRefuses c task p out =
     let a = readAnswer c task p out in Refuses {A = ℕ × List ℕ} readNumbers (a .refusal) (a .bytes, readOutput c task p out) (0, out)
+
+abbrev pub SizeRefuses : ℕ → ℕ → Type 0
+SizeRefuses size blocksize = let a = chunkSizeAnswer size blocksize in Refuses sizeNumbers (a .refusal) (a .bytes) 0
 
 abbrev pub LengthRefuses : Container → Type 0
 LengthRefuses c = Refuses recordNumbers (lengthAnswer c .refusal) (lengthAnswer c .bytes) 0
@@ -120,6 +127,7 @@ pub record Refusals : Type 0 where
   pub part-refuses : (c : Container) → (task chunk : ℕ) → PartRefuses c task chunk
   pub total-refuses : (c : Container) → (task : ℕ) → TotalRefuses c task
   pub read-refuses : (c : Container) → (task p : ℕ) → (out : List ℕ) → ReadRefuses c task p out
+  pub size-refuses : (size blocksize : ℕ) → SizeRefuses size blocksize
   pub length-refuses : (c : Container) → LengthRefuses c
   pub prefix-refuses : (c : Container) → PrefixRefuses c
   pub needs-refuses : (o : Opening) → NeedsRefuses o

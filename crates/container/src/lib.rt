@@ -1,4 +1,5 @@
 // One container of the SIONlib file format over memory that the caller lends: all entries, with what is promised of them together.
+pub use about::chunk_size;
 pub use about::prefix;
 pub use about::whole_length;
 pub use chunks::chunk;

@@ -1,32 +1,38 @@
 -- Where chunks lie: after META1, each within its own blocks, and all before META2, for any number of tasks and any sizes; and how far META2 can
--- reach within the limits. Of what a chunk holds, only `capacity-fits` is used.
+-- reach within the limits. Of what a chunk holds, the laws of its place use only `capacity-fits`.
 use mathlib.Core.Path.{_≡_, ap, sym, _∙_}
+use mathlib.Core.Bool.{true}
 use mathlib.Core.List.{List}
 use Prim.Native.Nat.{ℕ, suc, _+_, _-_, _*_, _/_, _%_, _^_, _≤_, _<_}
 use native.Mathlib.Nat.{le-refl, le-antisymm, lt-of-le-of-lt, lt-of-not-le, le-of-suc-le-suc, mul-add, mul-one}
 use native.Mathlib.Nat.{add-mul, mul-assoc, suc-mul, mul-le-mul-left, mul-le-mul-right, mul-add-div-right, div-mul-le-self}
 use native.Mathlib.Omega.{arith}
 use lib.Arith.{digits-div, digits-mod}
+use lib.IntN.{pos}
 use lib.ListN.{getD}
 use Rattle.lists.proofs.Below.{sum-none, sum-more, sum-step, sum-cong, sum-multiple}
-use Rattle.format.specs.Limits.{maxSize, maxBlocks, Sound}
+use Rattle.format.specs.Limits.{maxSize, maxBlocks, blocksizeRule, Sound}
 use Rattle.format.specs.Layout.{meta1End, dataStart, extended, capacity, extendedBefore, globalskip, chunkStart, meta2Start, meta2Length, meta2End}
-use Rattle.format.proofs.Bounds.{dataStart-small, rounds-small, meta2Length-small}
+use Rattle.format.proofs.Bounds.{roundUp-small, dataStart-small, rounds-small, meta2Length-small}
 use Rattle.format.proofs.Rounding.{roundUp-multiple, roundUp-ge}
 
 pub meta1-before-data : (b n : ℕ) → 0 < b → meta1End n ≤ dataStart b n
 unfolding dataStart
 meta1-before-data b n h = roundUp-ge b (meta1End n) h
 
--- all that the laws below ask of `capacity`
-capacity-fits : (b c : ℕ) → 0 < b → capacity b c ≤ extended b c
-unfolding capacity extended
-capacity-fits b c h = roundUp-ge b c h
-
--- no chunk holds more than the greatest size
-pub capacity-small : (b c : ℕ) → c ≤ maxSize → capacity b c ≤ maxSize
+-- all that the laws of a chunk's place ask of `capacity`
+capacity-fits : (b c : ℕ) → capacity b c ≤ extended b c
 unfolding capacity
-capacity-small b c l = l
+capacity-fits b c = le-refl (extended b c)
+
+-- a chunk holds what was requested, and no chunk more than the greatest size
+pub capacity-enough : (b c : ℕ) → 0 < b → c ≤ capacity b c
+unfolding capacity extended
+capacity-enough b c h = roundUp-ge b c h
+
+pub capacity-small : (b c : ℕ) → blocksizeRule (pos b) ≡ true → c ≤ maxSize → capacity b c ≤ maxSize
+unfolding capacity extended
+capacity-small b c e l = roundUp-small b c e l
 
 -- the extended sizes before the first task, and before the next one
 pub extendedBefore-none : (b : ℕ) (size : ℕ → ℕ) → extendedBefore b size 0 ≡ 0
@@ -47,14 +53,14 @@ unfolding chunkStart
 chunk-after-data b n size task chunk = omega arith
 
 -- a chunk ends before its round of chunks does, and the last round ends where META2 starts
-pub chunk-before-meta2 : (b n : ℕ) (size : ℕ → ℕ) (task chunk maxchunks : ℕ) → 0 < b → 1 ≤ task → task ≤ n → 1 ≤ chunk → chunk ≤ maxchunks
+pub chunk-before-meta2 : (b n : ℕ) (size : ℕ → ℕ) (task chunk maxchunks : ℕ) → 1 ≤ task → task ≤ n → 1 ≤ chunk → chunk ≤ maxchunks
     → chunkStart b n size task chunk + capacity b (size (task - 1)) ≤ meta2Start b n size maxchunks
 unfolding chunkStart meta2Start globalskip
-chunk-before-meta2 b n size task chunk maxchunks h t1 tn c1 cm =
+chunk-before-meta2 b n size task chunk maxchunks t1 tn c1 cm =
     let whole : suc (chunk - 1) ≤ maxchunks = omega arith in
     omega (
       arith,
-      capacity-fits b (size (task - 1)) h,
+      capacity-fits b (size (task - 1)),
       extendedBefore-step b size (task - 1) n (omega arith),
       suc-mul (chunk - 1) (extendedBefore b size n),
       mul-le-mul-right (extendedBefore b size n) whole,
@@ -77,12 +83,12 @@ module _ (b n : ℕ) (size : ℕ → ℕ) (positive : 0 < b) where
   -- a byte of a task's chunk lies in the task's part of a round
   in-round : (s i : ℕ) → s < n → i < capacity b (size s) → extendedBefore b size s + i < globalskip b n size
   unfolding globalskip
-  in-round s i l h = omega (arith, capacity-fits b (size s) positive, extendedBefore-step b size s n l)
+  in-round s i l h = omega (arith, capacity-fits b (size s), extendedBefore-step b size s n l)
 
   not-later : (s t i j : ℕ) → i < capacity b (size s) → extendedBefore b size s + i ≡ extendedBefore b size t + j → t ≤ s
   not-later s t i j h e =
       le-of-suc-le-suc
-      (lt-of-not-le (λ (l : s < t). omega (arith, capacity-fits b (size s) positive, extendedBefore-step b size s t l)))
+      (lt-of-not-le (λ (l : s < t). omega (arith, capacity-fits b (size s), extendedBefore-step b size s t l)))
 
   -- two bytes that chunks hold at one offset are of one task and one chunk
   pub same-byte : (s t k l i j : ℕ) → 1 ≤ s → s ≤ n → 1 ≤ t → t ≤ n → 1 ≤ k → 1 ≤ l

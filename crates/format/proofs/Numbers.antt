@@ -23,7 +23,7 @@ use Rattle.format.specs.Close.{maxchunksOf, finished, closedImage, close
 use Rattle.format.specs.Judge.{magicIn, bigIn, orderedIn, tasksIn, maxchunksIn, headIn, rankIn, sizeIn, meta2In, startTests, fieldTests, fixedTests, listTests, lastTests, restTests, meta1Tests, countIn, valuesIn, meta2Tests}
 use Rattle.format.specs.Load.{meta2Bytes, loadedIn, listsIn, loadRefusal, checkAnswer, loadAnswer, loadTable}
 use Rattle.format.specs.Reads.{loadedTests, readTests, chunksUsed, writtenIn, chunkBytes, chunkRefusal, chunkPart, chunkPlace, partAnswer, streamOf, totalOf, totalAnswer, readRefusal, readAnswer, readOutput}
-use Rattle.format.specs.About.{beforeZero, wholeRefusal, lengthAnswer, prefixAnswer}
+use Rattle.format.specs.About.{sizeTests, chunkSizeAnswer, beforeZero, wholeRefusal, lengthAnswer, prefixAnswer}
 use Rattle.format.specs.Tally.{Terms, Fed, Tally, outcome, answerTo, feed}
 use Rattle.format.specs.Numbers.{Agrees, pTable, otherTable}
 use Rattle.format.specs.Orders.{orderTable}
@@ -31,7 +31,8 @@ use Rattle.format.specs.Bytes.{byteTable}
 use Rattle.format.specs.Line.{totalsOf, loaded, rest, containerLine, lineOf}
 use Rattle.format.specs.Lines.{lineTable}
 
-all-tables : Agrees pTable × Agrees otherTable × Agrees orderTable × Agrees byteTable × Agrees lineTable
+-- in two halves, since one declaration may take only so many steps
+number-tables : Agrees pTable × Agrees otherTable
 unfolding allBelow anyBelow sumBelow greatestBelow joinBelow flatten splice tasksRule powerOfTwo blocksizeRule sizesRule plannedRule
     maxchunksRule allDifferent ranksRule meta1End roundUp dataStart extended capacity extendedBefore globalskip chunkStart
     meta2Start meta2Length meta2End firstFailing lastFields meta1Front meta1 openingBytes valueRule valuesRule countsRule meta2 filled listsOf headSound
@@ -39,32 +40,44 @@ unfolding allBelow anyBelow sumBelow greatestBelow joinBelow flatten splice task
     openAnswer openImage openTable sessionTests begun inLast capacityOf spot target requestTests stored maxchunksOf finished
     closedImage writeRefusal afterWrite closeRefusal closeAnswer closeImage magicIn bigIn orderedIn tasksIn maxchunksIn headIn rankIn sizeIn meta2In
     startTests fieldTests fixedTests listTests lastTests restTests meta1Tests countIn valuesIn meta2Tests meta2Bytes loadedIn listsIn loadRefusal checkAnswer loadAnswer loadTable loadedTests readTests chunksUsed writtenIn chunkBytes
-    chunkRefusal chunkPart chunkPlace partAnswer streamOf totalOf totalAnswer readRefusal readAnswer readOutput beforeZero wholeRefusal lengthAnswer prefixAnswer outcome feed pTable otherTable orderTable byteTable totalsOf loaded rest containerLine lineOf lineTable
-all-tables = (
+    chunkRefusal chunkPart chunkPlace partAnswer streamOf totalOf totalAnswer readRefusal readAnswer readOutput sizeTests chunkSizeAnswer beforeZero wholeRefusal lengthAnswer prefixAnswer outcome feed pTable otherTable
+number-tables = (
   (refl, (refl, (refl, (refl, (refl, (refl, (refl, (refl, (refl, (refl, (refl, (refl, (refl, tt))))))))))))),
-  (refl, (refl, (refl, (refl, (refl, (refl, (refl, (refl, (refl, (refl, (refl, (refl, (refl, (refl, (refl, (refl, (refl, tt))))))))))))))))),
+  (refl, (refl, (refl, (refl, (refl, (refl, (refl, (refl, (refl, (refl, (refl, (refl, (refl, (refl, (refl, (refl, (refl, (refl, (refl, (refl, (refl, (refl, (refl, (refl, (refl, tt))))))))))))))))))))))))),
+)
+
+text-tables : Agrees orderTable × Agrees byteTable × Agrees lineTable
+unfolding allBelow anyBelow sumBelow greatestBelow joinBelow flatten splice tasksRule powerOfTwo blocksizeRule sizesRule plannedRule
+    maxchunksRule allDifferent ranksRule meta1End roundUp dataStart extended capacity extendedBefore globalskip chunkStart
+    meta2Start meta2Length meta2End firstFailing lastFields meta1Front meta1 openingBytes valueRule valuesRule countsRule meta2 filled listsOf headSound
+    sessionSound loadedSound tooShort cellsAgree recordTests shapeTests numberTests planTests holds startOf meta2At endAt openRefusal opens openHead openSession openLists
+    openAnswer openImage openTable sessionTests begun inLast capacityOf spot target requestTests stored maxchunksOf finished
+    closedImage writeRefusal afterWrite closeRefusal closeAnswer closeImage magicIn bigIn orderedIn tasksIn maxchunksIn headIn rankIn sizeIn meta2In
+    startTests fieldTests fixedTests listTests lastTests restTests meta1Tests countIn valuesIn meta2Tests meta2Bytes loadedIn listsIn loadRefusal checkAnswer loadAnswer loadTable loadedTests readTests chunksUsed writtenIn
+    chunkRefusal totalOf totalAnswer readRefusal orderTable byteTable totalsOf loaded rest containerLine lineOf lineTable
+text-tables = (
   (refl, (refl, (refl, (refl, (refl, (refl, (refl, (refl, (refl, (refl, (refl, (refl, tt)))))))))))),
-  (refl, (refl, (refl, (refl, (refl, (refl, (refl, tt))))))),
   (refl, (refl, (refl, (refl, (refl, tt))))),
+  (refl, (refl, (refl, (refl, (refl, (refl, tt)))))),
 )
 
 -- P1 to P13, and the numbers without a P
 pub p-table : Agrees pTable
-p-table = all-tables .0
+p-table = number-tables .0
 
 pub other-table : Agrees otherTable
-other-table = all-tables .1
+other-table = number-tables .1
 
 -- the orders of tests, and what is stored, byte by byte
 pub order-table : Agrees orderTable
-order-table = all-tables .2
+order-table = text-tables .0
 
 pub byte-table : Agrees byteTable
-byte-table = all-tables .3
+byte-table = text-tables .1
 
 -- the program's lines
 pub line-table : Agrees lineTable
-line-table = all-tables .4
+line-table = text-tables .2
 
 -- P13, "refused with 15 at any moment": whatever a session holds, once it passes 17, 18 and 19, and whatever the tally keeps
 pub too-long : (st : State) (q : Request) → firstFailing (sessionTests st) ≡ 0 → isTask (st .session .head .n) (q .task) ≡ true

@@ -20,7 +20,6 @@ use Rattle.format.specs.Meta2.{valueIndex}
 use Rattle.format.specs.Record.{entry, cell, allLists, ranksOf, sizesOf, rankOf, sizeOf, countOf, isOrder, holds, startOf, headSound, endAt, tooShort, cellsAgree, recordTests}
 use Rattle.format.specs.Close.{maxchunksOf}
 use Rattle.format.specs.Passed.{Passed, Meta2Fits}
-use Rattle.format.proofs.Power.{blocksize-facts}
 use Rattle.format.proofs.Chunks.{capacity-small, chunk-before-meta2, meta2End-mono}
 use Rattle.format.proofs.Rules.{sizes-within, valueIndex-lt, values-used, values-fewer}
 use Rattle.format.proofs.Refusals.{Numbered, none-fails, all-pass}
@@ -92,7 +91,7 @@ module _ {h : Head} {lists : List ℕ} {m : ℕ} {image : List ℕ} {table : Lis
 
     pub holds-small : holds h (sizeOf lists) (task - 1) ≤ maxSize
     unfolding holds
-    holds-small = capacity-small _ _ size-small
+    holds-small = capacity-small _ _ (head-block h lists (p .head)) size-small
 
     pub count-few : countOf lists (task - 1) ≤ m
     count-few = p .counts (task - 1) (omega arith)
@@ -105,12 +104,7 @@ module _ {h : Head} {lists : List ℕ} {m : ℕ} {image : List ℕ} {table : Lis
         → startOf h (sizeOf lists) task chunk + holds h (sizeOf lists) (task - 1) ≤ length image
     unfolding startOf holds endAt meta2End
     chunk-inside chunk l b =
-        let block = blocksize-facts (h .blocksize) (head-block h lists (p .head)) in
-        omega (
-          arith,
-          p .image-long,
-          chunk-before-meta2 (h .blocksize) (h .n) (sizeOf lists) task chunk m (omega arith) first last l b,
-        )
+        omega (arith, p .image-long, chunk-before-meta2 (h .blocksize) (h .n) (sizeOf lists) task chunk m first last l b)
 
     -- a chunk in use has its bytes in its cell, no more than it holds
     pub cell-range : (k : ℕ) → k < countOf lists (task - 1)

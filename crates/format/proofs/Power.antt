@@ -1,18 +1,18 @@
 -- Powers of two: they are exactly the numbers with one set digit, their trailing zeros are the exponent, and blocksizes are such powers.
 use mathlib.Core.Path.{_≡_, refl, sym, ap, _∙_, subst}
 use mathlib.Core.Bool.{Bool, true, false, false≢true}
-use Prim.Native.Nat.{ℕ, zero, suc, _*_, _/_, _%_, _^_, _<_, _≤_}
-use native.Mathlib.Nat.{mod-lt, div-add-mod', pow-suc, div-lt-iff-lt-mul, one-mul, add-zero, lt-of-not-le, not-le-of-lt, le-trans, le-of-eq}
+use Prim.Native.Nat.{ℕ, zero, suc, _+_, _-_, _*_, _/_, _%_, _^_, _<_, _≤_}
+use native.Mathlib.Nat.{mod-lt, div-add-mod', pow-suc, le-of-suc-le-suc, div-lt-iff-lt-mul, one-mul, add-zero, lt-of-not-le, not-le-of-lt, le-trans, le-of-eq}
 use native.Mathlib.Omega.{arith}
 use borrow.Author.Tests.{eqb-true, eq-eqb, ne-eqb}
 use lib.Arith.{lt-one}
 use lib.Count.{ones, ones-step, ones-cat, trailingZeros, under}
 use lib.Dec.{eqb, lit<}
 use lib.IntN.{pos}
-use lib.Pow.{pow-pos, pow-mono}
+use lib.Pow.{pow-pos, pow-add, pow-mono}
 use Rattle.endian.specs.Signed.{within}
 use Rattle.lists.proofs.Below.{and-left, and-right, any-at, any-of}
-use Rattle.format.specs.Limits.{wordBits, minBlocksize, maxBlocksize, powerOfTwo, blocksizeRule}
+use Rattle.format.specs.Limits.{wordBits, minBlocksize, maxBlocksize, maxSize, powerOfTwo, blocksizeRule}
 use Rattle.endian.proofs.Signed.{within-facts, within-holds}
 
 half-lt : {n : ℕ} (k : ℕ) → n < 2 ^ suc k → n / 2 < 2 ^ k
@@ -93,3 +93,12 @@ pub blocksize-power : (k b : ℕ) → b < 2 ^ k → blocksizeRule (pos b) ≡ tr
 blocksize-power k b h e =
     let r = power-of-two b (blocksize-facts b e .2) in
     ones-one k b h (ap ones (r .1) ∙ ones-power (r .0))
+
+-- the greatest size is a multiple of every blocksize
+pub blocksize-divides : (b : ℕ) → blocksizeRule (pos b) ≡ true → (q : ℕ) × (maxSize ≡ q * b)
+blocksize-divides b e =
+    let f = blocksize-facts b e in
+    let (j, p) = power-of-two b (f .2) in
+    let small : j ≤ 30 = le-of-suc-le-suc (lt-of-not-le (λ (g : 31 ≤ j). omega (arith, pow-mono g))) in
+    let whole : 30 ≡ 30 - j + j = omega arith in
+    (2 ^ (30 - j), ap (λ (k : ℕ). 2 ^ k) whole ∙ pow-add 2 (30 - j) j ∙ ap (λ (x : ℕ). 2 ^ (30 - j) * x) (sym p))

@@ -6,11 +6,6 @@ use native.Mathlib.Nat.{div-add-mod', div-lt-iff-lt-mul, mod-lt, mod-eq-of-lt}
 use native.Mathlib.Omega.{arith}
 use Rattle.format.specs.Layout.{roundUp}
 
--- less than one b is added
-pub roundUp-lt : (b x : ℕ) → 0 < b → roundUp b x < x + b
-unfolding roundUp
-roundUp-lt b x h = omega (arith, div-add-mod' (x + (b - 1)) b)
-
 pub roundUp-multiple : (b x : ℕ) → (q : ℕ) × (roundUp b x ≡ q * b)
 unfolding roundUp
 roundUp-multiple b x = ((x + (b - 1)) / b, refl)

@@ -1,16 +1,29 @@
--- A loaded container as a whole, by its record, its lists, its image and its table: its length, and its filename prefix. Document 01 has the
--- numbers but no entry for them; who shows a container to a person asks for both. Each has the tests that every call on a record has.
-use mathlib.Core.Bool.{cond}
+-- Numbers that the papers name but have no entry for, as answers: what a chunk holds, for who cuts a stream into requests; and of a loaded
+-- container, by its record, its lists, its image and its table, its length and its filename prefix, for who shows it to a person.
+use mathlib.Core.Bool.{cond, not}
 use mathlib.Core.List.{List, [], _∷_}
 use Prim.Native.Nat.{ℕ, _+_}
 use lib.Dec.{eqb}
+use lib.IntN.{pos}
 use lib.ListN.{take, drop}
+use Rattle.endian.specs.Signed.{within}
+use Rattle.format.specs.Limits.{maxSize, blocksizeRule}
+use Rattle.format.specs.Layout.{capacity}
 use Rattle.format.specs.declared.loaded.Part.{Part}
 use Rattle.format.specs.declared.loaded.ByteCount.{ByteCount}
-use Rattle.format.specs.Refusals.{firstFailing}
+use Rattle.format.specs.Refusals.{Test, test, firstFailing}
 use Rattle.format.specs.Meta1.{prefixAt, prefixLength}
 use Rattle.format.specs.Record.{sizeOf, endAt}
 use Rattle.format.specs.Reads.{Container, loadedTests}
+
+-- a task's chunk size, by its requested size and the blocksize: the tests that an opening has for these two, 5 and 9
+unfoldable pub sizeTests : ℕ → ℕ → List Test
+sizeTests size blocksize = test 5 (not (blocksizeRule (pos blocksize))) ∷ test 9 (not (within 1 maxSize (pos size))) ∷ []
+
+unfoldable pub chunkSizeAnswer : ℕ → ℕ → ByteCount
+chunkSizeAnswer size blocksize =
+    let refusal = firstFailing (sizeTests size blocksize) in
+    cond (eqb refusal 0) (record { refusal = 0; bytes = capacity blocksize size }) (record { refusal = refusal; bytes = 0 })
 
 -- how many bytes come before the first zero; all of them, where none is zero
 unfoldable pub beforeZero : List ℕ → ℕ

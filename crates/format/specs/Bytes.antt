@@ -8,7 +8,7 @@ use Rattle.format.specs.Session.{State}
 use Rattle.format.specs.Open.{Opening, opened}
 use Rattle.format.specs.Write.{writes}
 use Rattle.format.specs.Close.{closeImage}
-use Rattle.format.specs.Numbers.{Row, row, plan, two, twoFirst, twoLast}
+use Rattle.format.specs.Numbers.{Row, row, plan, two, write, twoFirst, twoLast}
 
 -- ---- opening: version -2, patch level 7, blocksize 512, ranks 5 and 258, sizes 500 and 600, the prefix `ab`
 
@@ -77,20 +77,20 @@ abBig =
     ++ zeros 416
     ++ (9 ∷ [])
 
--- ---- closing: the session of P11 and P12 over nines
+-- ---- closing: the session of P11 over nines, and 12 bytes more, which no longer fit
 
 abbrev pub closedNines : ℕ → List ℕ
-closedNines order = closeImage (writes (overNines (plan order 512 two 3)) (twoFirst ++ (twoLast ∷ [])))
+closedNines order = closeImage (writes (overNines (plan order 512 two 3)) (twoFirst ++ (twoLast ∷ write 12 4 ∷ [])))
 
--- META1's last two fields; META2, 2, 0, 500, -1, 1, -1, and one byte more; and the byte of P11 with those around it
-abbrev pub lastBytes : ℕ → List ℕ
-lastBytes order = take 12 (drop 1108 (closedNines order))
-
-abbrev pub secondBytes : ℕ → List ℕ
-secondBytes order = take 49 (drop 4608 (closedNines order))
-
-abbrev pub movedBytes : ℕ → List ℕ
-movedBytes order = take 3 (drop 3071 (closedNines order))
+-- META1's last two fields; the byte of P11 with those around it; the ends of the bytes in chunk 2, with one before and one after; META2, 2, 0,
+-- 501, -1, 12, -1, and one byte more
+abbrev pub closedParts : List ℕ → List ℕ
+closedParts image =
+    take 12 (drop 1108 image)
+    ++ take 3 (drop 2035 image)
+    ++ take 2 (drop 3071 image)
+    ++ take 2 (drop 3083 image)
+    ++ take 49 (drop 4608 image)
 
 abbrev pub all255 : List ℕ
 all255 = replicate 8 255
@@ -101,10 +101,16 @@ byteTable =
     ∷ row (abBytes 1) abBig
     -- -1 in the first 6 cells, and no more
     ∷ record { computed = overNines (abPlan 0) .table; stated = replicate 6 (negsuc 0) ++ (pos 9 ∷ []) }
-    ∷ row (lastBytes 0 ++ lastBytes 1) ((2 ∷ zeros 3) ++ (0 ∷ 18 ∷ zeros 6) ++ (zeros 3 ++ (2 ∷ [])) ++ (zeros 6 ++ (18 ∷ 0 ∷ [])))
-    ∷ row (secondBytes 0)
-    ((2 ∷ zeros 7) ++ zeros 8 ++ (244 ∷ 1 ∷ zeros 6) ++ all255 ++ (1 ∷ zeros 7) ++ all255 ++ (9 ∷ []))
-    ∷ row (secondBytes 1)
-    ((zeros 7 ++ (2 ∷ [])) ++ zeros 8 ++ (zeros 6 ++ (1 ∷ 244 ∷ [])) ++ all255 ++ (zeros 7 ++ (1 ∷ [])) ++ all255 ++ (9 ∷ []))
-    ∷ row (movedBytes 0 ++ movedBytes 1) (9 ∷ 3 ∷ 9 ∷ 9 ∷ 3 ∷ 9 ∷ [])
+    ∷ row (closedParts (closedNines 0))
+    ((2 ∷ zeros 3)
+    ++ (0 ∷ 18 ∷ zeros 6)
+    ++ (2 ∷ 3 ∷ 9 ∷ [])
+    ++ (9 ∷ 4 ∷ 4 ∷ 9 ∷ [])
+    ++ ((2 ∷ zeros 7) ++ zeros 8 ++ (245 ∷ 1 ∷ zeros 6) ++ all255 ++ (12 ∷ zeros 7) ++ all255 ++ (9 ∷ [])))
+    ∷ row (closedParts (closedNines 1))
+    ((zeros 3 ++ (2 ∷ []))
+    ++ (zeros 6 ++ (18 ∷ 0 ∷ []))
+    ++ (2 ∷ 3 ∷ 9 ∷ [])
+    ++ (9 ∷ 4 ∷ 4 ∷ 9 ∷ [])
+    ++ ((zeros 7 ++ (2 ∷ [])) ++ zeros 8 ++ (zeros 6 ++ (1 ∷ 245 ∷ [])) ++ all255 ++ (zeros 7 ++ (12 ∷ [])) ++ all255 ++ (9 ∷ [])))
     ∷ []

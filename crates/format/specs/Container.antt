@@ -7,7 +7,7 @@ use Prim.Native.Nat.{ℕ, _^_, _≤_, _<_, _+_, _*_}
 use lib.IntN.{ℤ, pos}
 use lib.ListN.{length, take}
 use Rattle.format.specs.Limits.{maxTasks, minBlocksize, maxBlocksize, maxSize, maxBlocks, maxRank}
-use Rattle.format.specs.Layout.{meta1End, capacity, meta2Start, meta2End}
+use Rattle.format.specs.Layout.{meta1End, capacity, requested, meta2Start, meta2End}
 use Rattle.format.specs.Meta1
 use Rattle.format.specs.Meta2
 use Rattle.format.specs.declared.head.Head.{Head}
@@ -64,21 +64,31 @@ meta2Said image c = Meta2.meta2Part image (meta2Start (c .blocksize) (c .n) (c .
 abbrev pub valueOf : List ℕ → Contents → ℕ → ℕ → ℤ
 valueOf image c k i = Meta2.valueField (c .big) (meta2Said image c) (c .n) (Meta2.valueIndex (c .n) k i)
 
--- META2 stands where META1 says, whole, and keeps its rule
-pub record HasMeta2 (image : List ℕ) (c : Contents) : Type 0 where
+-- META2 stands where META1 says, whole, and keeps its rule, where a chunk holds so much by blocksize and requested size
+pub record Meta2With (holds : ℕ → ℕ → ℕ) (image : List ℕ) (c : Contents) : Type 0 where
   pub fits : meta2End (c .blocksize) (c .n) (c .size) (c .maxchunks) ≤ length image
   pub counts-are : (i : ℕ) → i < c .n → Meta2.countField (c .big) (meta2Said image c) i ≡ pos (c .count i)
   pub counts-range : (i : ℕ) → i < c .n → c .count i ≤ c .maxchunks
   pub greatest : (i : ℕ) × (i < c .n) × (c .count i ≡ c .maxchunks)
   pub used-first : (i k : ℕ) → i < c .n → k < c .count i → valueOf image c k i ≡ pos (c .written k i)
-  pub used-fit : (i k : ℕ) → i < c .n → k < c .count i → c .written k i ≤ capacity (c .blocksize) (c .size i)
+  pub used-fit : (i k : ℕ) → i < c .n → k < c .count i → c .written k i ≤ holds (c .blocksize) (c .size i)
   pub others-unused : (i k : ℕ) → i < c .n → c .count i ≤ k → k < c .maxchunks → valueOf image c k i ≡ Meta2.unused
 
--- a container: what the loader has to accept, given a table that is long enough, and nothing else
-pub record IsContainer (image : List ℕ) : Type 0 where
+abbrev pub HasMeta2 : List ℕ → Contents → Type 0
+HasMeta2 = Meta2With capacity
+
+pub record ContainerWith (holds : ℕ → ℕ → ℕ) (image : List ℕ) : Type 0 where
   pub says : Contents
   pub first : HasMeta1 image says
-  pub second : HasMeta2 image says
+  pub second : Meta2With holds image says
+
+-- a container: what the loader has to accept, given a table that is long enough, and nothing else
+abbrev pub IsContainer : List ℕ → Type 0
+IsContainer = ContainerWith capacity
+
+-- what was one before W-202
+abbrev pub WasContainer : List ℕ → Type 0
+WasContainer = ContainerWith requested
 
 -- ---- what a load hands back of it
 

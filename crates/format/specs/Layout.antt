@@ -1,5 +1,5 @@
--- Document 01, "Where the chunks lie", with the ends of both metadata blocks. b is the blocksize, n the number of tasks, `size i` the requested
--- size of task i + 1. A task or a chunk that is an argument by that name is counted from 1, as in the paper.
+-- Document 01, "Where the chunks lie", with the ends of both metadata blocks, and W-202. b is the blocksize, n the number of tasks, `size i` the
+-- requested size of task i + 1. A task or a chunk that is an argument by that name is counted from 1, as in the paper.
 use Prim.Native.Nat.{ℕ, _+_, _-_, _*_, _/_}
 use Rattle.lists.specs.Below.{sumBelow}
 
@@ -19,9 +19,13 @@ dataStart b n = roundUp b (meta1End n)
 unfoldable pub extended : ℕ → ℕ → ℕ
 extended b size = roundUp b size
 
--- what a chunk holds: "A chunk holds at most the requested size; the rest of the extended chunk is a gap"
+-- what a chunk holds, by W-202: "a chunk holds its extended size"
 unfoldable pub capacity : ℕ → ℕ → ℕ
-capacity b size = size
+capacity b size = extended b size
+
+-- and what it held before: "A chunk holds at most the requested size; the rest of the extended chunk is a gap"
+abbrev pub requested : ℕ → ℕ → ℕ
+requested b size = size
 
 -- "the extended sizes of the tasks before it", for task i + 1
 unfoldable pub extendedBefore : ℕ → (ℕ → ℕ) → ℕ → ℕ

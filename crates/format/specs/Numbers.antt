@@ -1,25 +1,29 @@
--- Document 01, "Numbers to check by": each number of the paper beside what the rules compute. That the two are the same
--- is one statement for each of the two tables, proved in proofs/Numbers.antt.
+-- Document 01, "Numbers to check by", with P11 to P13 as W-202 has them: each number of the papers beside what the rules compute. That the two
+-- are the same is one statement for each of the two tables, proved in proofs/Numbers.antt.
 use mathlib.Core.Path.{_≡_}
-use mathlib.Core.Bool.{Bool, true, false}
+use mathlib.Core.Bool.{Bool, true, false, cond}
 use mathlib.Core.List.{List, [], _∷_, _++_, map}
 use Prim.Native.Nat.{ℕ, _+_, _*_}
+use lib.Dec.{eqb}
 use lib.IntN.{ℤ, pos, negsuc}
 use lib.ListN.{length, getD, take, replicate}
 use Rattle.lists.specs.Below.{listBelow}
 use Rattle.endian.specs.Signed.{signedAt}
-use Rattle.format.specs.Layout.{meta1End, dataStart, extended, globalskip, chunkStart, imageNeeded}
+use Rattle.format.specs.Layout.{meta1End, dataStart, extended, capacity, requested, globalskip, chunkStart, imageNeeded}
 use Rattle.lists.specs.Splice.{splice}
 use Rattle.format.specs.declared.head.Head.{Head}
 use Rattle.format.specs.Meta1.{formatField, maxchunksField, startField, meta1}
-use Rattle.format.specs.Record.{entry, orderOf, headOf}
+use Rattle.format.specs.Meta2.{meta2}
+use Rattle.format.specs.Refusals.{firstFailing}
+use Rattle.format.specs.Record.{entry, orderOf, listsOf, headOf, cellsAgree}
 use Rattle.format.specs.Session.{State}
 use Rattle.format.specs.Open.{Opening, needsAnswer, openRefusal, openAnswer, opened}
 use Rattle.format.specs.Write.{Request, target, writes, refusals}
 use Rattle.format.specs.Close.{closeAnswer, closeImage}
+use Rattle.format.specs.Judge.{meta2Tests}
 use Rattle.format.specs.Load.{loadRefusal, loadAnswer}
 use Rattle.format.specs.Reads.{Container, chunkRefusal, chunkPart, partAnswer, totalAnswer, readRefusal, readAnswer, readOutput, loadedFrom}
-use Rattle.format.specs.About.{lengthAnswer, prefixAnswer}
+use Rattle.format.specs.About.{chunkSizeAnswer, lengthAnswer, prefixAnswer}
 use Rattle.format.specs.Tally.{Terms, termsOf, fed, Tallies, offset, initial, outcomeIn, feedAll, answers, held}
 
 -- a row: what the rules compute, and what the paper says
@@ -79,6 +83,12 @@ twoPlan = termsOf (plan 0 512 two 3)
 abbrev pub twoBook : Tallies
 twoBook = feedAll twoPlan initial (fed twoFirst)
 
+-- and 12 bytes more, one over what is left: where the tally puts the first of them
+abbrev pub twoMoved : ℕ
+twoMoved =
+    let book = feedAll twoPlan initial (fed (twoFirst ++ (twoLast ∷ []))) in
+    offset twoPlan 1 (outcomeIn twoPlan book (record { task = 1; L = 12 })) (book 1)
+
 -- closed, in a byte order: META1's last two fields, META2, the length and the closed mark
 abbrev pub twoClosed : Bool → List ℤ
 twoClosed big =
@@ -86,25 +96,27 @@ twoClosed big =
     let image = closeImage done in
     maxchunksField big image 2
     ∷ startField big image 2
-    ∷ listBelow 6 (λ j. signedAt big 8 image (4608 + 8 * j))
+    ∷ listBelow 4 (λ j. signedAt big 8 image (3072 + 8 * j))
     ++ (pos (closeAnswer done .length) ∷ pos (closeAnswer done .session .closed) ∷ [])
 
 abbrev pub twoStated : List ℤ
-twoStated = pos 2 ∷ pos 4608 ∷ pos 2 ∷ pos 0 ∷ pos 500 ∷ negsuc 0 ∷ pos 1 ∷ negsuc 0 ∷ pos 4656 ∷ pos 1 ∷ []
+twoStated = pos 1 ∷ pos 3072 ∷ pos 1 ∷ pos 0 ∷ pos 501 ∷ negsuc 0 ∷ pos 3104 ∷ pos 1 ∷ []
 
--- ---- "Size 500, K=2", one task: 1, 500 and 1, with a request of 501 at each moment, by the session's rules and by the tally
+-- ---- "Size 500, K=2", one task, with blocksize 512, and then of another size: requests of so many bytes, by the session's rules and by the
+-- tally; at last twice the bytes held and one more, beside K·c
 
-abbrev pub oneOpened : State
-oneOpened = openedZeros (plan 0 512 (500 ∷ []) 2) (imageNeeded 512 1 (λ i. 500) 2) 2
+abbrev pub oneOpened : ℕ → State
+oneOpened size = openedZeros (plan 0 512 (size ∷ []) 2) (imageNeeded 512 1 (λ i. size) 2) 2
 
-abbrev pub oneRequests : List Request
-oneRequests = map (λ (L : ℕ). write L 7) (501 ∷ 1 ∷ 501 ∷ 500 ∷ 501 ∷ 1 ∷ 501 ∷ [])
+abbrev pub onePlan : ℕ → Terms
+onePlan size = termsOf (plan 0 512 (size ∷ []) 2)
 
-abbrev pub onePlan : Terms
-onePlan = termsOf (plan 0 512 (500 ∷ []) 2)
-
-abbrev pub oneAnswers : List ℕ
-oneAnswers = answers onePlan initial (fed oneRequests)
+abbrev pub oneAnswers : ℕ → List ℕ → List ℕ
+oneAnswers size lengths =
+    let requests = map (λ (L : ℕ). write L 7) lengths in
+    let byTally = answers (onePlan size) initial (fed requests) in
+    refusals (oneOpened size) requests
+    ++ (byTally ++ (2 * (held 1 (fed requests) byTally + 1) ∷ onePlan size .K * onePlan size .c 1 ∷ []))
 
 -- P1 to P13, in order
 unfoldable pub pTable : List Row
@@ -140,21 +152,19 @@ pTable =
     ∷ row
     (refusals (twoOpened 0) (twoFirst ++ (twoLast ∷ []))
     ++ (target twoWritten twoLast
-    ∷ getD (twoWritten .image) 3072 0
-    ∷ getD (twoDone 0 .image) 3072 0
+    ∷ getD (twoWritten .image) 2036 0
+    ∷ getD (twoDone 0 .image) 2036 0
     ∷ offset twoPlan 1 (outcomeIn twoPlan twoBook (record { task = 1; L = 1 })) (twoBook 1)
     ∷ []))
-    (0 ∷ 0 ∷ 0 ∷ 3072 ∷ 0 ∷ 3 ∷ 3072 ∷ [])
+    (0 ∷ 0 ∷ 0 ∷ 2036 ∷ 0 ∷ 3 ∷ 2036 ∷ [])
     -- P12
     ∷ record { computed = twoClosed false ++ twoClosed true; stated = twoStated ++ twoStated }
-    -- P13
-    ∷ row
-    (refusals oneOpened oneRequests
-    ++ (oneAnswers ++ (2 * (held 1 (fed oneRequests) oneAnswers + 1) ∷ onePlan .K * onePlan .c 1 ∷ [])))
-    (15 ∷ 0 ∷ 15 ∷ 0 ∷ 15 ∷ 16 ∷ 15 ∷ 15 ∷ 0 ∷ 15 ∷ 0 ∷ 15 ∷ 16 ∷ 15 ∷ 1004 ∷ 1000 ∷ [])
+    -- P13: 1, 512 and 1, with a request of 513 at each moment
+    ∷ row (oneAnswers 500 (513 ∷ 1 ∷ 513 ∷ 512 ∷ 513 ∷ 1 ∷ 513 ∷ []))
+    (15 ∷ 0 ∷ 15 ∷ 0 ∷ 15 ∷ 16 ∷ 15 ∷ 15 ∷ 0 ∷ 15 ∷ 0 ∷ 15 ∷ 16 ∷ 15 ∷ 1028 ∷ 1024 ∷ [])
     ∷ []
 
--- ---- the numbers without a P, and the limits, with opening's answers, and P12's container loaded and read
+-- ---- the numbers without a P, and the limits, with opening's answers, and containers loaded and read
 
 abbrev pub withBlocksize : ℕ → ℕ
 withBlocksize b = openRefusal (plan 0 b (500 ∷ []) 1) (8 * 4_194_304) 1
@@ -193,10 +203,37 @@ refusedOpening =
 abbrev pub zerosMarked : List ℤ
 zerosMarked = map pos ((0 ∷ 0 ∷ 0 ∷ 0 ∷ 0 ∷ 0 ∷ 1 ∷ []) ++ replicate 192 0)
 
+-- ---- what a chunk holds, by a blocksize and a requested size: the number itself, then 13 of META2, 19's rule of the cells, and the tally's answer, of
+-- just as many bytes and of one more
+
+abbrev pub headWith : ℕ → Head
+headWith b = headOf 0 (pos 1) (pos 7) b 1
+
+abbrev pub filledBy : ℕ → ℕ → ℕ → List ℕ
+filledBy b size bytes =
+    firstFailing (meta2Tests (headWith b) (λ i. size) 1 (meta2 false 1 1 (λ i. 1) (λ j. pos bytes)))
+    ∷ cond (cellsAgree (headWith b) (listsOf 1 (λ i. 0) (λ i. size) (λ i. 1)) 1 (pos bytes ∷ [])) 0 19
+    ∷ answers (termsOf (plan 0 b (size ∷ []) 1)) initial (record { task = 1; L = bytes } ∷ [])
+
+abbrev pub heldBy : ℕ → ℕ → List ℕ
+heldBy b size = let c = capacity b size in c ∷ filledBy b size c ++ filledBy b size (c + 1)
+
+abbrev pub sized : ℕ → ℕ → List ℕ
+sized size b = let a = chunkSizeAnswer size b in a .refusal ∷ a .bytes ∷ []
+
 -- ---- a container's image, and what loading it hands back
 
 abbrev pub twoImage : ℕ → ℕ → List ℕ
 twoImage order bytes = take bytes (closeImage (twoDone order))
+
+-- the container that the session of P12 gave while a chunk held its requested size only: the last byte at 3072, in chunk 2, and META2 at 4608
+abbrev pub storedTwo : ℕ → List ℕ
+storedTwo order =
+    meta1 (headOf order (pos 1) (pos 7) 512 2) (λ i. i) (entry two) [] 2 4608
+    ++ replicate 416 0
+    ++ (replicate 300 1 ++ replicate 200 2 ++ replicate 1036 0)
+    ++ (3 ∷ replicate 1535 0)
+    ++ meta2 (eqb order 1) 2 2 (entry (2 ∷ 0 ∷ [])) (λ j. getD (pos 500 ∷ negsuc 0 ∷ pos 1 ∷ negsuc 0 ∷ []) j (pos 0))
 
 abbrev pub loadedHere : List ℕ → Container
 loadedHere image = loadedFrom image (replicate 4 (pos 0))
@@ -264,12 +301,39 @@ otherTable =
     -- "A refused opening or load hands back a record of zeros marked closed"
     ∷ record { computed = refusedLoad; stated = zerosMarked }
     ∷ record { computed = refusedOpening; stated = zerosMarked }
-    -- P12's 4,656 bytes; with one byte fewer META2 does not fit
+    -- P12's 3,104 bytes, and the 4,656 of the container that was stored before; with one byte fewer META2 does not fit
     ∷ record {
-      computed = said (twoImage 0 4656);
-      stated = pos 0 ∷ pos 2 ∷ pos 2 ∷ pos 501 ∷ pos 0 ∷ pos 1 ∷ pos 7 ∷ pos 3 ∷ [];
+      computed = said (twoImage 0 3104) ++ said (storedTwo 0);
+      stated =
+          (pos 0 ∷ pos 2 ∷ pos 1 ∷ pos 501 ∷ pos 0 ∷ pos 1 ∷ pos 7 ∷ pos 3 ∷ [])
+          ++ (pos 0 ∷ pos 2 ∷ pos 2 ∷ pos 501 ∷ pos 0 ∷ pos 1 ∷ pos 7 ∷ pos 3 ∷ []);
     }
-    ∷ row (loadRefusal (twoImage 1 4655) 4 ∷ loadRefusal (twoImage 0 4656) 3 ∷ []) (12 ∷ 18 ∷ [])
+    ∷ row
+    (loadRefusal (twoImage 1 3103) 4 ∷ loadRefusal (twoImage 0 3104) 1 ∷ loadRefusal (take 4655 (storedTwo 1)) 4 ∷ loadRefusal (storedTwo 0) 3 ∷ [])
+    (12 ∷ 18 ∷ 12 ∷ 18 ∷ [])
+    -- what a chunk holds: of the least size, of one more and one less than a multiple of the blocksize, and of a multiple, which holds what it did
+    ∷ row
+    (heldBy 512 1 ++ heldBy 512 513 ++ heldBy 512 1023 ++ heldBy 512 1024)
+    ((512 ∷ 0 ∷ 0 ∷ 0 ∷ 13 ∷ 19 ∷ 15 ∷ [])
+    ++ (1024 ∷ 0 ∷ 0 ∷ 0 ∷ 13 ∷ 19 ∷ 15 ∷ [])
+    ++ (1024 ∷ 0 ∷ 0 ∷ 0 ∷ 13 ∷ 19 ∷ 15 ∷ [])
+    ++ (1024 ∷ 0 ∷ 0 ∷ 0 ∷ 13 ∷ 19 ∷ 15 ∷ []))
+    -- and what it held before
+    ∷ row (map (requested 512) (1 ∷ 500 ∷ 513 ∷ 1024 ∷ [])) (1 ∷ 500 ∷ 513 ∷ 1024 ∷ [])
+    -- with the greatest blocksize: sizes 1 and 1,073,741,823
+    ∷ row
+    (heldBy 4_194_304 1 ++ heldBy 4_194_304 1_073_741_823)
+    ((4_194_304 ∷ 0 ∷ 0 ∷ 0 ∷ 13 ∷ 19 ∷ 15 ∷ []) ++ (1_073_741_824 ∷ 0 ∷ 0 ∷ 0 ∷ 13 ∷ 19 ∷ 15 ∷ []))
+    -- as an answer: of the least and the greatest size, of one past each, with a blocksize that is no power of two, and with both numbers wrong
+    ∷ row
+    (sized 1 512 ++ sized 1_073_741_824 4_194_304 ++ sized 0 512 ++ sized 1_073_741_825 512 ++ sized 500 768 ++ sized 0 0)
+    (0 ∷ 512 ∷ 0 ∷ 1_073_741_824 ∷ 9 ∷ 0 ∷ 9 ∷ 0 ∷ 5 ∷ 0 ∷ 5 ∷ 0 ∷ [])
+    -- where the tally begins the next chunk of P11's task 1; where the session does is among the bytes of Bytes.antt
+    ∷ row (twoMoved ∷ []) (3072 ∷ [])
+    -- size 512, a multiple of the blocksize: what size 500 is answered in P13; and with size 500, chunks filled to the last byte of both
+    ∷ row (oneAnswers 512 (513 ∷ 1 ∷ 513 ∷ 512 ∷ 513 ∷ 1 ∷ 513 ∷ []))
+    (15 ∷ 0 ∷ 15 ∷ 0 ∷ 15 ∷ 16 ∷ 15 ∷ 15 ∷ 0 ∷ 15 ∷ 0 ∷ 15 ∷ 16 ∷ 15 ∷ 1028 ∷ 1024 ∷ [])
+    ∷ row (oneAnswers 500 (500 ∷ 12 ∷ 500 ∷ 11 ∷ 2 ∷ 1 ∷ 1 ∷ [])) (0 ∷ 0 ∷ 0 ∷ 0 ∷ 16 ∷ 0 ∷ 16 ∷ 0 ∷ 0 ∷ 0 ∷ 0 ∷ 16 ∷ 0 ∷ 16 ∷ 2050 ∷ 1024 ∷ [])
     -- the other numbers of loading, by cuts and by single bytes
     ∷ row (map cutTo (1544 ∷ 3 ∷ 4 ∷ 7 ∷ 8 ∷ 1075 ∷ 1076 ∷ 1103 ∷ 1104 ∷ 1543 ∷ [])) (0 ∷ 1 ∷ 2 ∷ 2 ∷ 3 ∷ 3 ∷ 3 ∷ 3 ∷ 12 ∷ 12 ∷ [])
     ∷ row
@@ -289,8 +353,13 @@ otherTable =
     ∷ changed 1536 1
     ∷ [])
     (1 ∷ 2 ∷ 4 ∷ 5 ∷ 6 ∷ 7 ∷ 7 ∷ 7 ∷ 8 ∷ 9 ∷ 10 ∷ 11 ∷ 12 ∷ 13 ∷ [])
-    -- "A chunk not used by a task has the value -1", and not 0: P12's second task, chunk 1
-    ∷ row (loadRefusal (splice (twoImage 0 4656) 4632 (replicate 8 0)) 4 ∷ []) (13 ∷ [])
+    -- "A chunk not used by a task has the value -1", and not 0: the second task, chunk 1; and 512 and 513 bytes in the first task's chunk 1
+    ∷ row
+    (loadRefusal (splice (storedTwo 0) 4632 (replicate 8 0)) 4
+    ∷ loadRefusal (splice (storedTwo 0) 4624 (0 ∷ 2 ∷ [])) 4
+    ∷ loadRefusal (splice (storedTwo 0) 4624 (1 ∷ 2 ∷ [])) 4
+    ∷ [])
+    (13 ∷ 0 ∷ 13 ∷ [])
     -- "signed two's complement": the greatest and the least number of 4 and of 8 bytes
     ∷ record {
       computed = map (signedAt false 4 signedEnds) (0 ∷ 4 ∷ []) ++ map (signedAt true 8 signedEnds) (8 ∷ 16 ∷ []);
@@ -298,11 +367,13 @@ otherTable =
     }
     -- versions, flags, prefix and padding are not tested: their first and last bytes
     ∷ row (map (λ (at : ℕ). changed at 255) (8 ∷ 15 ∷ 36 ∷ 43 ∷ 44 ∷ 51 ∷ 52 ∷ 1075 ∷ 1104 ∷ 1535 ∷ [])) (replicate 10 0)
-    ∷ row (reads (loadedHere (twoImage 1 4656))) (3 ∷ 3072 ∷ 1 ∷ 22 ∷ 2 ∷ 2 ∷ 3 ∷ 9 ∷ 9 ∷ 23 ∷ 14 ∷ [])
+    ∷ row (reads (loadedHere (storedTwo 1))) (3 ∷ 3072 ∷ 1 ∷ 22 ∷ 2 ∷ 2 ∷ 3 ∷ 9 ∷ 9 ∷ 23 ∷ 14 ∷ [])
+    -- and the bytes of P12 that stand on both sides of its requested size
+    ∷ row (readOutput (loadedHere (twoImage 1 3104)) 1 499 (replicate 4 9)) (2 ∷ 3 ∷ 9 ∷ 9 ∷ [])
     -- P12's length, whatever follows; no prefix, one of two bytes before a zero, one that fills its field; and a record of zeros
     ∷ row
     (whole (twoImage 0 6000)
-    ++ (whole (splice (twoImage 1 4656) 52 (110 ∷ 97 ∷ 0 ∷ 97 ∷ []))
-    ++ (whole (splice (twoImage 0 4656) 52 (replicate 1024 1)) ++ whole [])))
-    (0 ∷ 4656 ∷ 0 ∷ 52 ∷ 0 ∷ 0 ∷ 4656 ∷ 0 ∷ 52 ∷ 2 ∷ 0 ∷ 4656 ∷ 0 ∷ 52 ∷ 1024 ∷ 17 ∷ 0 ∷ 17 ∷ 0 ∷ 0 ∷ [])
+    ++ (whole (splice (storedTwo 1) 52 (110 ∷ 97 ∷ 0 ∷ 97 ∷ []))
+    ++ (whole (splice (storedTwo 0) 52 (replicate 1024 1)) ++ whole [])))
+    (0 ∷ 3104 ∷ 0 ∷ 52 ∷ 0 ∷ 0 ∷ 4656 ∷ 0 ∷ 52 ∷ 2 ∷ 0 ∷ 4656 ∷ 0 ∷ 52 ∷ 1024 ∷ 17 ∷ 0 ∷ 17 ∷ 0 ∷ 0 ∷ [])
     ∷ []

@@ -222,57 +222,59 @@ orderTable =
     ∷ openOf 1 512 (3 ∷ 4 ∷ []) (500 ∷ 600 ∷ []) 0 3 6208 6
     ∷ [])
     (6 ∷ 2 ∷ 6 ∷ 6 ∷ 21 ∷ 8 ∷ 20 ∷ 0 ∷ [])
-    -- a write: "17, 18, 19, 14, empty accepted, 15, 16"
+    -- a write: "17, 18, 19, 14, empty accepted, 15, 16"; 513 bytes are more than a chunk holds, 503 more than is left of it, and 502 fill it
     ∷ row
-    (writeOf (sessionAt 1 2063 (pos 11 ∷ [])) 2 11
-    ∷ writeOf (sessionAt 0 2063 (pos 11 ∷ [])) 2 11
-    ∷ writeOf (sessionAt 0 2064 []) 2 11
-    ∷ writeOf (sessionAt 0 2064 (pos 11 ∷ [])) 2 11
-    ∷ writeOf (sessionAt 0 2064 (pos 10 ∷ [])) 2 11
-    ∷ writeOf (sessionAt 0 2064 (pos 10 ∷ [])) 1 11
-    ∷ writeOf (sessionAt 0 2064 (pos 10 ∷ [])) 1 10
-    ∷ writeOf (sessionAt 0 2064 (pos 0 ∷ [])) 1 10
+    (writeOf (sessionAt 1 2063 (pos 513 ∷ [])) 2 513
+    ∷ writeOf (sessionAt 0 2063 (pos 513 ∷ [])) 2 513
+    ∷ writeOf (sessionAt 0 2064 []) 2 513
+    ∷ writeOf (sessionAt 0 2064 (pos 513 ∷ [])) 2 513
+    ∷ writeOf (sessionAt 0 2064 (pos 10 ∷ [])) 2 513
+    ∷ writeOf (sessionAt 0 2064 (pos 10 ∷ [])) 1 513
+    ∷ writeOf (sessionAt 0 2064 (pos 10 ∷ [])) 1 503
+    ∷ writeOf (sessionAt 0 2064 (pos 10 ∷ [])) 1 502
+    ∷ writeOf (sessionAt 0 2064 (pos 0 ∷ [])) 1 512
+    ∷ writeOf (sessionAt 0 2064 (pos 512 ∷ [])) 1 1
     ∷ [])
-    (17 ∷ 18 ∷ 18 ∷ 19 ∷ 14 ∷ 15 ∷ 16 ∷ 0 ∷ [])
+    (17 ∷ 18 ∷ 18 ∷ 19 ∷ 14 ∷ 15 ∷ 16 ∷ 0 ∷ 0 ∷ 16 ∷ [])
     -- the same of an empty request
     ∷ row
-    (writeOf (sessionAt 1 2063 (pos 11 ∷ [])) 0 0
-    ∷ writeOf (sessionAt 0 2063 (pos 11 ∷ [])) 0 0
-    ∷ writeOf (sessionAt 0 2064 (pos 11 ∷ [])) 0 0
+    (writeOf (sessionAt 1 2063 (pos 513 ∷ [])) 0 0
+    ∷ writeOf (sessionAt 0 2063 (pos 513 ∷ [])) 0 0
+    ∷ writeOf (sessionAt 0 2064 (pos 513 ∷ [])) 0 0
     ∷ writeOf (sessionAt 0 2064 (pos 10 ∷ [])) 0 0
     ∷ writeOf (sessionAt 0 2064 (pos 10 ∷ [])) 1 0
     ∷ [])
     (17 ∷ 18 ∷ 19 ∷ 14 ∷ 0 ∷ [])
     -- a close: "17, 18, 19"
     ∷ row
-    (closeOf (sessionAt 1 2063 (pos 11 ∷ []))
-    ∷ closeOf (sessionAt 0 2063 (pos 11 ∷ []))
+    (closeOf (sessionAt 1 2063 (pos 513 ∷ []))
+    ∷ closeOf (sessionAt 0 2063 (pos 513 ∷ []))
     ∷ closeOf (sessionAt 0 2064 [])
-    ∷ closeOf (sessionAt 0 2064 (pos 11 ∷ []))
+    ∷ closeOf (sessionAt 0 2064 (pos 513 ∷ []))
     ∷ closeOf (sessionAt 0 2064 (negsuc 0 ∷ []))
-    ∷ closeOf (sessionAt 0 2064 (pos 10 ∷ []))
+    ∷ closeOf (sessionAt 0 2064 (pos 512 ∷ []))
     ∷ [])
     (17 ∷ 18 ∷ 18 ∷ 19 ∷ 19 ∷ 0 ∷ [])
     -- the reads: "17, 18, 19, 14, then 22 or 23"
     ∷ row
-    (chunkAt 1 2063 (pos 11 ∷ []) 2 2
-    ∷ chunkAt 0 2063 (pos 11 ∷ []) 2 2
+    (chunkAt 1 2063 (pos 513 ∷ []) 2 2
+    ∷ chunkAt 0 2063 (pos 513 ∷ []) 2 2
     ∷ chunkAt 0 2064 [] 2 2
-    ∷ chunkAt 0 2064 (pos 11 ∷ []) 2 2
+    ∷ chunkAt 0 2064 (pos 513 ∷ []) 2 2
     ∷ chunkAt 0 2064 (negsuc 0 ∷ []) 2 2
-    ∷ chunkAt 0 2064 (pos 10 ∷ []) 2 2
-    ∷ chunkAt 0 2064 (pos 10 ∷ []) 1 2
-    ∷ chunkAt 0 2064 (pos 10 ∷ []) 1 0
-    ∷ chunkAt 0 2064 (pos 10 ∷ []) 1 1
+    ∷ chunkAt 0 2064 (pos 512 ∷ []) 2 2
+    ∷ chunkAt 0 2064 (pos 512 ∷ []) 1 2
+    ∷ chunkAt 0 2064 (pos 512 ∷ []) 1 0
+    ∷ chunkAt 0 2064 (pos 512 ∷ []) 1 1
     ∷ [])
     (17 ∷ 18 ∷ 18 ∷ 19 ∷ 19 ∷ 14 ∷ 22 ∷ 22 ∷ 0 ∷ [])
     ∷ row
-    (readAt 1 2063 (pos 11 ∷ []) 2 11
-    ∷ readAt 0 2063 (pos 11 ∷ []) 2 11
-    ∷ readAt 0 2064 (pos 11 ∷ []) 2 11
-    ∷ readAt 0 2064 (pos 10 ∷ []) 2 11
-    ∷ readAt 0 2064 (pos 10 ∷ []) 1 11
-    ∷ readAt 0 2064 (pos 10 ∷ []) 1 10
+    (readAt 1 2063 (pos 513 ∷ []) 2 513
+    ∷ readAt 0 2063 (pos 513 ∷ []) 2 513
+    ∷ readAt 0 2064 (pos 513 ∷ []) 2 513
+    ∷ readAt 0 2064 (pos 512 ∷ []) 2 513
+    ∷ readAt 0 2064 (pos 512 ∷ []) 1 513
+    ∷ readAt 0 2064 (pos 512 ∷ []) 1 512
     ∷ [])
     (17 ∷ 18 ∷ 19 ∷ 14 ∷ 23 ∷ 0 ∷ [])
     -- 17, for each rule of a record, and not for the sound ones

@@ -20,7 +20,7 @@ pub record Terms : Type 0 where
   pub c : ℕ → ℕ
   pub start : ℕ → ℕ → ℕ
 
--- of an opening's own arguments: "A task's chunk size c is its requested size", what a chunk holds
+-- of an opening's own arguments: "A task's chunk size c is its requested size", which W-202 reads as what a chunk holds
 abbrev pub termsOf : Opening → Terms
 termsOf o =
     record {

@@ -37,8 +37,8 @@ module _ (st : State) (q : Request) where
   unfoldable pub capacityOf : ℕ
   capacityOf = holds (st .session .head) (sizeOf (st .lists)) (q .task - 1)
 
-  -- "if the task has a chunk in use and the bytes fit in what is left of its requested size, they go there, straight after the
-  -- last. Else they go to the start of its next chunk"
+  -- "if the task has a chunk in use and the bytes fit in what is left of its requested size", which W-202 reads as what a chunk holds, "they go
+  -- there, straight after the last. Else they go to the start of its next chunk"
   unfoldable pub spot : Spot
   spot =
       cond (ltb 0 begun && leb (length (q .bytes)) (capacityOf - inLast))

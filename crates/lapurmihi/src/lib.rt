@@ -17,7 +17,7 @@ ghost use Rattle.format.specs.declared.loaded.LoadAnswer.{LoadAnswer};
 ghost use Rattle.format.specs.declared.loaded.Part.{Part};
 ghost use Rattle.format.specs.declared.loaded.ByteCount.{ByteCount};
 ghost use Rattle.format.specs.Load.{loadAnswer, loadTable};
-ghost use Rattle.format.specs.About.{lengthAnswer, prefixAnswer};
+ghost use Rattle.format.specs.About.{chunkSizeAnswer, lengthAnswer, prefixAnswer};
 ghost use Rattle.format.specs.Reads.{containerOf, partAnswer, totalAnswer, readAnswer, readOutput};
 use format::head::LISTS;
 use format::loaded::ByteCount;
@@ -31,13 +31,20 @@ use format::session::Plan;
 use format::session::Session;
 
 // The library's version: 10,000 times the first number, 100 times the second, and the third.
-pub const VERSION: u32 = 100;
+pub const VERSION: u32 = 200;
 
 #[no_mangle]
 pub extern "C" fn lapur_version() -> u32
-    ensures { λ r. ⌜ r ≡ 100 ⌝ }
+    ensures { λ r. ⌜ r ≡ 200 ⌝ }
 {
     VERSION
+}
+
+#[no_mangle]
+pub extern "C" fn lapur_chunk_size(size: u64, blocksize: u32) -> ByteCount
+    ensures { λ r. ⌜ r ≡ chunkSizeAnswer size blocksize ⌝ }
+{
+    container::chunk_size(size, blocksize)
 }
 
 #[no_mangle]

@@ -1,10 +1,12 @@
-// Where the parts of a container lie: the rounding by blocksize, and the offsets of META1's end, each chunk and META2.
+// Where the parts of a container lie, and what its chunks hold: the rounding by blocksize, and the offsets of META1's end, each chunk and META2.
 // Every function asks for numbers within document 01's limits, under which no sum here can overflow.
 ghost use mathlib.Core.Path.{_≡_};
 ghost use mathlib.Core.Bool.{true};
 ghost use Prim.Native.Nat.{_+_, _*_, _≤_};
 ghost use lib.IntN.{pos};
-ghost use lib.ListN.{getD};
+ghost use lib.ListN.{length, getD};
+ghost use Rattle.lists.specs.Below.{listBelow};
+ghost use Rattle.lists.specs.Splice.{splice};
 ghost use Rattle.format.specs.Limits.{blocksizeRule, maxTasks, maxSize, maxBlocks, Sound};
 ghost use Rattle.format.specs.Layout.{meta1End, roundUp, dataStart, extended, capacity, extendedBefore, globalskip, chunkStart, meta2Start, meta2Length, meta2End};
 ghost use Rattle.format.specs.Meta1.{fixedLength, lastAt};
@@ -42,12 +44,24 @@ pub fn extended_size(size: u64, blocksize: u32) -> u64
     round_up(size, blocksize)
 }
 
-// What a chunk holds of a task with this requested size.
+// What a chunk of a task with this requested size holds.
 pub fn chunk_holds(size: u64, blocksize: u32) -> u64
     requires { ⌜ (blocksizeRule (pos blocksize) ≡ true) × (size ≤ maxSize) ⌝ }
     ensures { λ r. ⌜ r ≡ capacity blocksize size ⌝ }
 {
-    size
+    extended_size(size, blocksize)
+}
+
+// What a chunk of each of n tasks holds, from the list's start on: one rounding for each task.
+pub fn chunks_hold(holds: &mut [u64], sizes: &[u64], n: usize, blocksize: u32)
+    requires { ⌜ Sound blocksize n (now sizes) × (n ≤ length (now holds)) ⌝ }
+    ensures { λ _. ⌜ now (holds .exit) ≡ splice (now (holds .entry)) 0 (listBelow n (λ i. capacity blocksize (getD (now (sizes .entry)) i 0))) ⌝ }
+{
+    let mut i = 0;
+    while i < n {
+        holds[i] = chunk_holds(sizes[i], blocksize);
+        i += 1;
+    }
 }
 
 // The extended sizes of the first i tasks, added up.

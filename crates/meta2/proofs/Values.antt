@@ -1,11 +1,11 @@
 -- What a value's bits say of its rule, against their top bit and a mask of all ones or none, and the number that a value is.
-use mathlib.Core.Path.{_≡_, refl, sym, _∙_}
+use mathlib.Core.Path.{_≡_, refl, sym, ap, ap₂, _∙_}
 use mathlib.Core.Bool.{Bool, true, false, cond, _&&_}
 use Prim.Native.Nat.{ℕ, zero, suc, _+_, _-_, _/_, _%_, _^_, _<_, zero-le}
 use native.Mathlib.Nat.{mod-eq-of-lt}
 use native.Mathlib.Omega.{arith}
 use borrow.Author.Tests.{lt-ltb, le-ltb, ltb-true, ltb-false, le-leb, lt-leb, leb-true, leb-false, ne-eqb}
-use lib.Bits.{bitAnd, bitOr, bitXor, or-lt, or-add-and, and-le-l, and-le-r, and-mask, and-zero-r, xor-add-and, xor-self, xor-zero-l, xor-zero-r}
+use lib.Bits.{bitAnd, bitOr, bitXor, or-lt, or-add-and, and-le-l, and-le-r, and-mask, and-zero-l, and-zero-r, and-shr, xor-add-and, xor-self, xor-zero-l, xor-zero-r}
 use lib.Dec.{T, leb, ltb}
 use lib.IntN.{ℤ, pos, negsuc, natAbs}
 use lib.Signed.{ltZ, nonNeg, mag}
@@ -37,33 +37,40 @@ at-most lim b d h l m e = go (leb b lim) refl (ltb b (2 ^ 63)) refl
     go false f true g = let u = leb-false b lim f in let v = ltb-true b (2 ^ 63) g in le-ltb d (2 ^ 63) (omega arith)
     go false f false g = refl
 
--- chunk k + 1 is used where the count, or k less the count, has the top bit; the mask is 0 less that bit
-pub mask-is : (count k d r : ℕ) → k < 2 ^ 63 → count < 2 ^ 64 → d < 2 ^ 64 → (d + count) % 2 ^ 64 ≡ k → r < 2 ^ 64
-    → (r + bitOr count d / 2 ^ 63) % 2 ^ 64 ≡ 0 → r ≡ cond (ltb k count) ones 0
-mask-is count k d r small hc hd e hr f = go (ltb k count) refl (ltb count (2 ^ 63)) refl
-  where
-    top : {q : Bool} → (ltb count (2 ^ 63) && ltb d (2 ^ 63)) ≡ q → ltb (bitOr count d) (2 ^ 63) ≡ q
-    top h = or-top count d ∙ h
-
-    wide : bitOr count d < 2 ^ 64
-    wide = or-lt 64 count d hc hd
-
-    go : (u : Bool) → ltb k count ≡ u → (p : Bool) → ltb count (2 ^ 63) ≡ p → r ≡ cond u ones 0
-    go true g true h =
-        let u = ltb-true k count g in
-        let v = ltb-true count (2 ^ 63) h in
-        omega (arith, wide, ltb-false (bitOr count d) (2 ^ 63) (top (rw (h, le-ltb d (2 ^ 63) (omega arith)))))
-    go true g false h = omega (arith, wide, ltb-false (bitOr count d) (2 ^ 63) (top (rw h)))
-    go false g p h =
-        let u = ltb-false k count g in
-        omega (arith, wide, ltb-true (bitOr count d) (2 ^ 63) (top (rw (lt-ltb count (2 ^ 63) (omega arith), lt-ltb d (2 ^ 63) (omega arith)))))
-
 -- of all ones: what they leave, and turn round
 and-all : (b : ℕ) → b < 2 ^ 64 → bitAnd b ones ≡ b
 and-all b l = and-mask b 64 ∙ mod-eq-of-lt l
 
 xor-all : (b : ℕ) → b < 2 ^ 64 → bitXor b ones ≡ ones - b
 xor-all b l = omega (arith, xor-add-and b ones, and-all b l)
+
+-- a number that wraps to 0 with a bit added
+bit-none : (r : ℕ) → r < 2 ^ 64 → (r + 0) % 2 ^ 64 ≡ 0 → r ≡ 0
+bit-none r l e = omega arith
+
+bit-one : (r : ℕ) → r < 2 ^ 64 → (r + 1) % 2 ^ 64 ≡ 0 → r ≡ ones
+bit-one r l e = omega arith
+
+-- chunk k + 1 is not used where the count has no top bit, and the count less k + 1, which wraps, has it; the mask is 0 less that bit
+pub mask-is : (count k d r : ℕ) → k < 2 ^ 63 → count < 2 ^ 64 → d < 2 ^ 64 → (d + (k + 1)) % 2 ^ 64 ≡ count → r < 2 ^ 64
+    → (r + bitAnd d (bitXor count ones) / 2 ^ 63) % 2 ^ 64 ≡ 0 → r ≡ cond (ltb k count) 0 ones
+mask-is count k d r small hc hd e hr f = go (ltb k count) refl (ltb count (2 ^ 63)) refl
+  where
+    -- the bit, where the top bits of d and of the count turned round are x and y
+    bit : (x y : ℕ) → d / 2 ^ 63 ≡ x → (ones - count) / 2 ^ 63 ≡ y → bitAnd d (bitXor count ones) / 2 ^ 63 ≡ bitAnd x y
+    bit x y p q = and-shr d (bitXor count ones) 63 ∙ ap₂ bitAnd p (ap (λ (n : ℕ). n / 2 ^ 63) (xor-all count hc) ∙ q)
+
+    go : (u : Bool) → ltb k count ≡ u → (p : Bool) → ltb count (2 ^ 63) ≡ p → r ≡ cond u 0 ones
+    go true g true h =
+        let u = ltb-true k count g in
+        let v = ltb-true count (2 ^ 63) h in
+        bit-none r hr (rw (bit 0 _ (omega arith) refl ∙ and-zero-l ((ones - count) / 2 ^ 63)) at f)
+    go true g false h =
+        let v = ltb-false count (2 ^ 63) h in
+        bit-none r hr (rw (bit _ 0 refl (omega arith) ∙ and-zero-r (d / 2 ^ 63)) at f)
+    go false g p h =
+        let u = ltb-false k count g in
+        bit-one r hr (rw (bit 1 1 (omega arith) (omega arith)) at f)
 
 -- the bits of a value, turned round where its chunk is not used, are at most what the chunk holds, or 0, exactly where it keeps its rule
 module _ (holds : ℕ) (small : holds < 2 ^ 63) where
@@ -79,10 +86,10 @@ module _ (holds : ℕ) (small : holds < 2 ^ 63) where
   unused-bits (negsuc (suc n)) l =
       lt-leb (ones - bitsOf 63 (negsuc (suc n))) 0 (omega arith) ∙ sym (ne-eqb (suc n) 0 (λ e. omega arith))
 
-  pub masked : (used : Bool) (z : ℤ) {bits m : ℕ} → mag z < 2 ^ 63 → bits ≡ bitsOf 63 z → bits < 2 ^ 64 → m ≡ cond used ones 0
-      → leb (bitXor bits (bitXor m ones)) (bitAnd holds m) ≡ valueRule used holds z
-  masked true z l f b e = rw (e, xor-self, xor-zero-r, and-all holds (omega arith), f) (used-bits z l)
-  masked false z {bits} l f b e = rw (e, xor-zero-l, and-zero-r, xor-all bits b, f) (unused-bits z l)
+  pub masked : (used : Bool) (z : ℤ) {bits m : ℕ} → mag z < 2 ^ 63 → bits ≡ bitsOf 63 z → bits < 2 ^ 64 → m ≡ cond used 0 ones
+      → leb (bitXor bits m) (bitAnd holds (bitXor m ones)) ≡ valueRule used holds z
+  masked true z l f b e = rw (e, xor-zero-r, xor-zero-l, and-all holds (omega arith), f) (used-bits z l)
+  masked false z {bits} l f b e = rw (e, xor-self, and-zero-r, xor-all bits b, f) (unused-bits z l)
 
 -- a value that is not negative is a number without a sign
 pub value-casts : (z : ℤ) → SFits w64 z → ltZ z (pos 0) ≡ false → T (nonNeg z) × Fits w64 (natAbs z)

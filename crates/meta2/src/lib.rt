@@ -16,12 +16,13 @@ ghost use Rattle.format.specs.declared.head.Head.{Head};
 ghost use Rattle.format.specs.Refusals.{firstFailing};
 ghost use Rattle.format.specs.Meta2.{valueRule, valuesRule, valueField};
 ghost use Rattle.format.specs.Record.{cell, sizeOf, isBig, withCounts};
-ghost use Rattle.meta2.specs.Judging.{ruleAt, Meta2There, CountsRead};
+ghost use Rattle.meta2.specs.Judging.{ruleAt, HoldsListed, Meta2There, CountsRead};
 ghost use Rattle.format.specs.Judge.{meta2Tests};
 use endian::read;
 use endian::sign;
 use format::head;
 use format::head::Head;
+use format::limit;
 use format::refusal;
 use rules::heads;
 
@@ -31,6 +32,10 @@ const TOP: u64 = 0x8000_0000_0000_0000;
 // So many values are decoded at a time to be judged.
 const TILE: usize = 128;
 
+// Up to so many tasks a list of this length is enough for what chunks hold. The list is cleared in every call, so a call on few tasks takes the
+// short one.
+const FEW: usize = 16;
+
 // `bad`, with its top bit set if bits is over holds: bits, or the difference, then has that bit.
 fn over(bad: u64, holds: u64, bits: u64) -> u64
     requires { ⌜ holds < 2 ^ 63 ⌝ }
@@ -39,12 +44,13 @@ fn over(bad: u64, holds: u64, bits: u64) -> u64
     bad | bits | std::num::wrapping_sub_u64(holds, bits)
 }
 
-// All ones where a task of so many chunks uses chunk k + 1, else 0.
-fn use_mask(count: u64, k: u64) -> u64
+// 0 where a task of so many chunks uses chunk k + 1, else all ones.
+fn unused_mask(count: u64, k: u64) -> u64
     requires { ⌜ k < 2 ^ 63 ⌝ }
-    ensures { λ r. ⌜ r ≡ cond (ltb k count) 18446744073709551615 0 ⌝ }
+    ensures { λ r. ⌜ r ≡ cond (ltb k count) 0 18446744073709551615 ⌝ }
 {
-    let bit = (count | std::num::wrapping_sub_u64(k, count)) >> 63;
+    let under = std::num::wrapping_sub_u64(count, k + 1);
+    let bit = (under & (count ^ u64::MAX)) >> 63;
     std::num::wrapping_sub_u64(0, bit)
 }
 
@@ -54,31 +60,31 @@ fn value_bad(bad: u64, count: u64, k: u64, holds: u64, value: i64) -> u64
     requires { ⌜ (k < 2 ^ 63) × (holds < 2 ^ 63) ⌝ }
     ensures { λ r. ⌜ ltb r (2 ^ 63) ≡ (ltb bad (2 ^ 63) && valueRule (ltb k count) holds value) ⌝ }
 {
-    let mask = use_mask(count, k);
-    over(bad, holds & mask, sign::bits64(value) ^ (mask ^ u64::MAX))
+    let unused = unused_mask(count, k);
+    let most = holds & (unused ^ u64::MAX);
+    over(bad, most, sign::bits64(value) ^ unused)
 }
 
-// The cells of chunk k + 1, which stand from `at` on, one for each of n tasks, of which the first is task `first` + 1.
+// The cells of chunk k + 1, which stand from `at` on, one for each of n tasks, of which the first is task `first` + 1. What a chunk of each
+// task holds is listed, as are the counts.
 fn row_ok<'a>(
     cells: &[i64],
     at: usize,
     k: u64,
     first: usize,
     n: usize,
-    blocksize: u32,
-    sizes: &'a [u64],
+    holds: &'a [u64],
     counts: &'a [u64],
 ) -> bool
-    requires { ⌜ Sound blocksize (first + n) (now sizes) × (k < 2 ^ 63) ⌝ }
+    requires { ⌜ HoldsListed (first + n) (now holds) × (k < 2 ^ 63) ⌝ }
     requires { ⌜ (first + n ≤ length (now counts)) × (at + n ≤ length (now cells)) ⌝ }
-    ensures { λ r. ⌜ r ≡ allBelow n (λ i. valueRule (ltb k (getD (now (counts .entry)) (first + i) 0)) (capacity blocksize (getD (now (sizes .entry)) (first + i) 0)) (getD (now (cells .entry)) (at + i) (pos 0))) ⌝ }
+    ensures { λ r. ⌜ r ≡ allBelow n (λ i. valueRule (ltb k (getD (now (counts .entry)) (first + i) 0)) (getD (now (holds .entry)) (first + i) 0) (getD (now (cells .entry)) (at + i) (pos 0))) ⌝ }
 {
     let mut bad = 0;
     let mut i = 0;
     while i < n {
         let task = first + i;
-        let holds = layout::chunk_holds(sizes[task], blocksize);
-        bad = value_bad(bad, counts[task], k, holds, cells[at + i]);
+        bad = value_bad(bad, counts[task], k, holds[task], cells[at + i]);
         i += 1;
     }
     bad < TOP
@@ -100,20 +106,19 @@ fn span_ok<'a>(
     k: u64,
     first: usize,
     n: usize,
-    blocksize: u32,
-    sizes: &'a [u64],
+    holds: &'a [u64],
     counts: &'a [u64],
 ) -> bool
-    requires { ⌜ Sound blocksize n (now sizes) × (n ≤ length (now counts)) ⌝ }
+    requires { ⌜ HoldsListed n (now holds) × (n ≤ length (now counts)) ⌝ }
     requires { ⌜ (count ≤ length (now cells)) × (k + count < 2 ^ 63) × (0 < count → first < n) ⌝ }
-    ensures { λ r. ⌜ r ≡ allBelow count (λ t. ruleAt n blocksize (now (sizes .entry)) (now (counts .entry)) (k * n + first + t) (getD (now (cells .entry)) t (pos 0))) ⌝ }
+    ensures { λ r. ⌜ r ≡ allBelow count (λ t. ruleAt n (now (holds .entry)) (now (counts .entry)) (k * n + first + t) (getD (now (cells .entry)) t (pos 0))) ⌝ }
 {
     let mut at = 0;
     let mut row = k;
     let mut i = first;
     while at < count {
         let w = least(n - i, count - at);
-        if !row_ok(cells, at, row, i, w, blocksize, sizes, counts) {
+        if !row_ok(cells, at, row, i, w, holds, counts) {
             return false;
         }
         at += w;
@@ -121,6 +126,24 @@ fn span_ok<'a>(
         i = 0;
     }
     true
+}
+
+// The cells of all m chunks of a record, by META2's rule, with a list for what the chunks of its tasks hold.
+fn cells_held<'a>(
+    holds: &mut [u64],
+    table: &[i64],
+    n: usize,
+    blocksize: u32,
+    sizes: &'a [u64],
+    counts: &'a [u64],
+    m: u32,
+) -> bool
+    requires { ⌜ Sound blocksize n (now sizes) × (m ≤ maxBlocks) × (n ≤ length (now holds)) ⌝ }
+    requires { ⌜ (n ≤ length (now counts)) × (n * m ≤ length (now table)) ⌝ }
+    ensures { λ r. ⌜ r ≡ valuesRule n m (λ i. capacity blocksize (getD (now (sizes .entry)) i 0)) (λ i. getD (now (counts .entry)) i 0) (λ j. getD (now (table .entry)) j (pos 0)) ⌝ }
+{
+    layout::chunks_hold(holds, sizes, n, blocksize);
+    span_ok(table, n * m as usize, 0, 0, n, holds, counts)
 }
 
 // The cells of all m chunks of a record, by META2's rule.
@@ -136,7 +159,12 @@ pub fn cells_ok<'a>(
     requires { ⌜ (n ≤ length (now counts)) × (n * m ≤ length (now table)) ⌝ }
     ensures { λ r. ⌜ r ≡ valuesRule n m (λ i. capacity blocksize (getD (now (sizes .entry)) i 0)) (λ i. getD (now (counts .entry)) i 0) (λ j. getD (now (table .entry)) j (pos 0)) ⌝ }
 {
-    span_ok(table, n * m as usize, 0, 0, n, blocksize, sizes, counts)
+    if n <= FEW {
+        let mut few = [0u64; FEW];
+        return cells_held(&mut few, table, n, blocksize, sizes, counts, m);
+    }
+    let mut all = [0u64; limit::MAX_TASKS];
+    cells_held(&mut all, table, n, blocksize, sizes, counts, m)
 }
 
 // So many values, which stand from `at` on, into the table's start.
@@ -151,7 +179,37 @@ pub fn fill(table: &mut [i64], cells: usize, part: &[u8], at: usize, big: bool)
     }
 }
 
-// The values of META2, by the rule for cells: a tile of them at a time.
+// The values of META2, by the rule for cells, a tile of them at a time; with a list for what the chunks hold.
+fn values_held<'a>(
+    holds: &mut [u64],
+    part: &[u8],
+    big: bool,
+    n: usize,
+    blocksize: u32,
+    sizes: &'a [u64],
+    counts: &'a [u64],
+    m: u32,
+) -> bool
+    requires { ⌜ Sound blocksize n (now sizes) × (m ≤ maxBlocks) × (n ≤ length (now holds)) ⌝ }
+    requires { ⌜ (n ≤ length (now counts)) × (meta2Length n m ≤ length (now part)) ⌝ }
+    ensures { λ r. ⌜ r ≡ valuesRule n m (λ i. capacity blocksize (getD (now (sizes .entry)) i 0)) (λ i. getD (now (counts .entry)) i 0) (valueField big (now (part .entry)) n) ⌝ }
+{
+    layout::chunks_hold(holds, sizes, n, blocksize);
+    let cells = n * m as usize;
+    let mut tile = [0i64; TILE];
+    let mut j = 0;
+    while j < cells {
+        let w = least(cells - j, TILE);
+        fill(&mut tile, w, part, 8 * n + 8 * j, big);
+        if !span_ok(&tile, w, (j / n) as u64, j % n, n, holds, counts) {
+            return false;
+        }
+        j += w;
+    }
+    true
+}
+
+// The values of META2, by the rule for cells.
 fn values_ok<'a>(
     part: &[u8],
     big: bool,
@@ -165,18 +223,12 @@ fn values_ok<'a>(
     requires { ⌜ (n ≤ length (now counts)) × (meta2Length n m ≤ length (now part)) ⌝ }
     ensures { λ r. ⌜ r ≡ valuesRule n m (λ i. capacity blocksize (getD (now (sizes .entry)) i 0)) (λ i. getD (now (counts .entry)) i 0) (valueField big (now (part .entry)) n) ⌝ }
 {
-    let cells = n * m as usize;
-    let mut tile = [0i64; TILE];
-    let mut j = 0;
-    while j < cells {
-        let w = least(cells - j, TILE);
-        fill(&mut tile, w, part, 8 * n + 8 * j, big);
-        if !span_ok(&tile, w, (j / n) as u64, j % n, n, blocksize, sizes, counts) {
-            return false;
-        }
-        j += w;
+    if n <= FEW {
+        let mut few = [0u64; FEW];
+        return values_held(&mut few, part, big, n, blocksize, sizes, counts, m);
     }
-    true
+    let mut all = [0u64; limit::MAX_TASKS];
+    values_held(&mut all, part, big, n, blocksize, sizes, counts, m)
 }
 
 // Test 13, of counts that were read.

@@ -35,7 +35,7 @@ layout-of s size e =
       apart = λ r t k l i j r1 rn t1 tn k1 km l1 lm hi hj same.
           same-block (h .blocksize) (h .n) size (omega arith) r t k l i j r1 rn t1 tn k1 l1 hi hj same;
       inside = λ t k t1 tn k1 km.
-          omega (arith, chunk-before-meta2 (h .blocksize) (h .n) size t k (s .planned) (omega arith) t1 tn k1 km);
+          omega (arith, chunk-before-meta2 (h .blocksize) (h .n) size t k (s .planned) t1 tn k1 km);
     }
 
 -- of the lists, all but the counts of the n tasks are the same

@@ -1,6 +1,7 @@
 //! Holds the refused containers of the collection.
 
 use super::{Bases, List, I32, I64};
+use crate::forge::Plan;
 use reference::{Container, Field, Order};
 
 /// All that are made by damaging sound ones.
@@ -9,7 +10,9 @@ pub fn all(list: &mut List, bases: &Bases) {
     scalars(list, bases);
     lists(list, bases);
     starts(list, bases);
-    counts_and_values(list, bases);
+    counts(list, bases);
+    values(list, bases);
+    over(list, bases.one.order);
     swapped(list, bases);
     pairs(list, bases);
 }
@@ -96,8 +99,8 @@ fn starts(list: &mut List, Bases { one, two, lone, .. }: &Bases) {
     list.add("r13-one-block-more", &more);
 }
 
-/// Wrong counts and values of META2.
-fn counts_and_values(list: &mut List, Bases { one, many, two, lone }: &Bases) {
+/// Wrong counts of META2.
+fn counts(list: &mut List, Bases { one, many, two, lone, .. }: &Bases) {
     list.fields("r13-count", one, Field::Count(0), &[1, -1, I64[1]]);
     list.fields("r13-count-last", many, Field::Count(63), &[1]);
     list.fields("r13-count-two", two, Field::Count(0), &[1, 3, -1, 4_294_967_298]);
@@ -106,16 +109,34 @@ fn counts_and_values(list: &mut List, Bases { one, many, two, lone }: &Bases) {
     let below = two.with(Field::Count(0), 1).with(Field::Cell(1, 0), -1);
     list.add("r13-counts-below-maxchunks", &below);
     list.add("r13-counts-all-zero", &lone.with(Field::Count(0), 0));
+}
 
-    let values = [-1, -2, 6, 512, 4_294_967_301, I64[1]];
-    list.fields("r13-value", two, Field::Cell(0, 0), &values);
-    list.fields("r13-value-second", two, Field::Cell(0, 1), &[7]);
-    list.fields("r13-value-later", two, Field::Cell(1, 0), &[-1, 6]);
+/// Wrong values of META2.
+fn values(list: &mut List, Bases { two, lone, full, .. }: &Bases) {
+    let wrong = [-1, -2, 513, 1024, 4_294_967_301, 4_294_967_808, I64[1]];
+    list.fields("r13-value", two, Field::Cell(0, 0), &wrong);
+    list.fields("r13-value-second", two, Field::Cell(0, 1), &[513]);
+    list.fields("r13-value-later", two, Field::Cell(1, 0), &[-1, 513]);
+    list.fields("r13-full-first", full, Field::Cell(0, 0), &[513, 600, 1024, 1536]);
+    list.fields("r13-full-second", full, Field::Cell(0, 1), &[1025, 1536]);
+    let exchanged = full.with(Field::Size(0), 600).with(Field::Size(1), 500);
+    list.add("r13-full-sizes-exchanged", &exchanged);
     list.fields("r13-value-unused", two, Field::Cell(1, 1), &[0, -2, 4_294_967_295]);
     list.fields("r13-value-idle", lone, Field::Cell(0, 1), &[0]);
     list.add("r13-grouped-by-task", &lone.grouped_by_task());
     let late = two.with(Field::Count(1), 1).with(Field::Cell(0, 1), -1).with(Field::Cell(1, 1), 3);
     list.add("r13-second-chunk-without-first", &late);
+}
+
+/// A value one over what the chunk holds, for a size beside a multiple of the blocksize or on it.
+fn over(list: &mut List, order: Order) {
+    let sizes = [(512, 1), (512, 511), (512, 512), (512, 513), (1024, 700), (4096, 700)];
+    for (blocksize, size) in sizes {
+        let plan = Plan { blocksize, ..Plan::new(order, &[size]) };
+        let value = plan.capacity(0) as i64 + 1;
+        let over = plan.build(&[(1, vec![1])]).with(Field::Cell(0, 0), value);
+        list.add(&format!("r13-over-{size}-of-{blocksize}"), &over);
+    }
 }
 
 /// One field in the other byte order.
@@ -175,7 +196,7 @@ fn pairs(list: &mut List, Bases { one, many, two, .. }: &Bases) {
         ("r11-and-12-short", one, &[(Maxchunks, -1)], 1543),
         ("r11-and-13", one, &[(Maxchunks, 33), (Count(0), 33)], 1544),
         ("r12-and-13", one, &[(Start, 1537), (Count(0), 1)], 1544),
-        ("r12-and-13-short", two, &[(Cell(0, 0), 6)], 3631),
+        ("r12-and-13-short", two, &[(Cell(0, 0), 513)], 3631),
     ];
     for (name, base, changes, length) in cases {
         let mut both = (*base).clone();

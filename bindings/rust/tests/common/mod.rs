@@ -11,7 +11,10 @@ pub const CELL: i64 = -77;
 /// The container of the paper's P12, as the independent program made it.
 pub const SAMPLE: &[u8] = include_bytes!("../../../../examples/two-tasks.sion");
 
-/// The plan of that container: blocksize 512, sizes 500 and 600, K = 3.
+/// What was written for P12 before version 0.2.0, when a chunk held its requested size: the last byte stands in a second chunk.
+pub const BEFORE: &[u8] = include_bytes!("../../../../crates/vectors/data/ok-base-p12.sion");
+
+/// The plan of both: blocksize 512, sizes 500 and 600, K = 3.
 pub fn paper() -> Plan {
     Plan::new(512).version(1, 7).prefix("data/run.sion").blocks(3).task(0, 500).task(1, 600)
 }

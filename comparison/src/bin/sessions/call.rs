@@ -6,6 +6,7 @@ use crate::plan::Plan;
 /// A call with all that it is given beside its record and the lent memory; tasks and chunks are counted from 1.
 #[derive(Clone, Debug)]
 pub enum Call {
+    ChunkSize { size: u64, blocksize: u32 },
     Needs(Plan),
     Open(Plan),
     Write { task: u64 },

@@ -7,7 +7,7 @@ use crate::pairs::Pairs;
 use crate::plan::Plan;
 use crate::reload::{most_chunks, reload};
 use crate::same::{same, same_list};
-use crate::{drawn, hostile};
+use crate::{drawn, hostile, sizes};
 use reference::{Rng, Tally};
 
 /// The most calls between opening and closing.
@@ -21,8 +21,10 @@ struct Course {
     accepted: Vec<Vec<u8>>,
 }
 
-/// Runs a session from its opening to the calls after its close, and beside it calls with two faults.
+/// Runs a session from its opening to the calls after its close, and beside it a call that asks what a chunk holds and calls with two faults.
 pub fn run(rng: &mut Rng, counts: &mut Counts, pairs: &mut Pairs) -> Result<(), String> {
+    sizes::ask(rng, counts)?;
+    pairs.chunk_size(rng)?;
     pairs.opening(rng)?;
     let (plan, wanted) = drawn::plan(rng);
     let (answer, mut memory) = plan.open(rng)?;
@@ -56,9 +58,9 @@ fn refused(memory: &mut Memory, counts: &mut Counts) -> Result<(), String> {
 
 impl Course {
     fn new(plan: Plan, memory: Memory) -> Course {
-        let tasks = plan.sizes.iter().enumerate();
-        let tally = Tally::new(plan.k, tasks.map(|(task, &size)| (size, plan.starts(task))));
-        let accepted = vec![vec![]; plan.sizes.len()];
+        let tasks = 0..plan.sizes.len();
+        let accepted = vec![vec![]; tasks.len()];
+        let tally = Tally::new(plan.k, tasks.map(|task| (plan.holds(task), plan.starts(task))));
         Course { plan, memory, tally, accepted }
     }
 
@@ -104,18 +106,28 @@ impl Course {
         Ok((copy, length))
     }
 
-    /// A task, mostly one that there is, and bytes of a length at a bound or of any.
+    /// A task, mostly one that there is, and bytes of a length at a bound or of any. Bounds are the requested size, what a chunk holds, and
+    /// what is left in the last chunk of either.
     fn request(&self, rng: &mut Rng) -> (u64, Vec<u8>) {
         let n = self.plan.sizes.len();
         let task = rng.below(n);
-        let (size, left) = (self.plan.sizes[task] as usize, self.memory.left(task));
-        let length = match rng.below(8) {
-            0 => rng.pick(&[0, 1, size, size + 1]),
-            1 | 2 => rng.pick(&[left, left + 1]),
-            3 | 4 => rng.below(size + 1),
-            _ => rng.below(size / 4 + 1),
+        let (size, holds) = (self.plan.sizes[task] as usize, self.plan.holds(task) as usize);
+        let left = self.memory.left(task);
+        let length = match rng.below(10) {
+            0 => rng.pick(&[0, 1]),
+            1 => near(size, rng),
+            2 => near(holds, rng),
+            3 | 4 => near(left, rng),
+            5 => near(left.saturating_sub(holds - size), rng),
+            6 => rng.below(holds + 1),
+            _ => rng.below(holds / 4 + 1),
         };
         let none = rng.pick(&[0, n as u64 + 1, u64::MAX]);
         (if rng.one_in(20) { none } else { task as u64 + 1 }, rng.bytes(length))
     }
+}
+
+/// A length, or one more or less.
+fn near(length: usize, rng: &mut Rng) -> usize {
+    rng.pick(&[length.saturating_sub(1), length, length + 1])
 }

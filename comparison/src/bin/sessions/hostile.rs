@@ -69,10 +69,10 @@ fn spoil_cell(Memory { session, table, .. }: &mut Memory, rng: &mut Rng) {
 
 /// The index of one of the first cells, and a value for it against META2's rule.
 pub fn broken_cell(head: &Head, cells: usize, rng: &mut Rng) -> (usize, i64) {
-    let (at, used, size) = any_cell(head, cells, rng);
+    let Cell { at, used, size, holds } = any_cell(head, cells, rng);
     let value = match used {
-        true => rng.pick(&[-1, -2, size + 1, i64::MIN, i64::MAX]),
-        false => rng.pick(&[0, 1, size, -2, i64::MIN]),
+        true => rng.pick(&[-1, -2, holds + 1, holds + 1, i64::MIN, i64::MAX]),
+        false => rng.pick(&[0, 1, size, holds, -2, i64::MIN]),
     };
     (at, value)
 }
@@ -107,19 +107,30 @@ fn fill_behind(head: &mut Head, rng: &mut Rng) {
 
 /// A used cell set to another value that it may have, or a cell behind the n·K that are judged.
 fn change_cell(Memory { session, table, .. }: &mut Memory, rng: &mut Rng) {
-    let (at, used, size) = any_cell(&session.head, (session.head.n * session.k) as usize, rng);
+    let Cell { at, used, size, holds } =
+        any_cell(&session.head, (session.head.n * session.k) as usize, rng);
     if used {
-        table.values[at] = rng.below(size as usize + 1) as i64;
+        let any = rng.below(holds as usize + 1) as i64;
+        table.values[at] = rng.pick(&[any, any, size, (size + 1).min(holds), holds - 1, holds]);
     } else if let Some(last) = table.values.last_mut() {
         *last = rng.number() as i64;
     }
 }
 
-/// One of the first cells: its index, whether it is of a chunk in use, and the task's size.
-fn any_cell(head: &Head, cells: usize, rng: &mut Rng) -> (usize, bool, i64) {
+/// The index of a cell, whether it is of a chunk in use, the task's size, and what the chunk holds.
+struct Cell {
+    at: usize,
+    used: bool,
+    size: i64,
+    holds: i64,
+}
+
+/// One of the first cells.
+fn any_cell(head: &Head, cells: usize, rng: &mut Rng) -> Cell {
     let at = rng.below(cells);
     let (chunk, task) = (at / head.n as usize, at % head.n as usize);
-    (at, (chunk as u64) < head.counts[task], head.sizes[task] as i64)
+    let (size, holds) = (head.sizes[task] as i64, head.capacity(task) as i64);
+    Cell { at, used: (chunk as u64) < head.counts[task], size, holds }
 }
 
 /// One field, length or cell of a loaded container set to another value.
@@ -142,8 +153,8 @@ pub fn change_loaded(memory: &mut Memory, rng: &mut Rng) {
         _ if table.length == 0 => head.order = u32::MAX,
         _ if rng.one_in(3) => table.length -= 1,
         _ => {
-            let at = rng.below(table.length);
-            table.values[at] = rng.pick(&[-2, -1, 0, 1, i64::MAX]);
+            let Cell { at, size, holds, .. } = any_cell(head, table.length, rng);
+            table.values[at] = rng.pick(&[-2, -1, 0, size, size + 1, holds, holds + 1, i64::MAX]);
         }
     }
 }

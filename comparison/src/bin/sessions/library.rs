@@ -10,6 +10,7 @@ pub fn answer(call: &Call, memory: &mut LibraryMemory) -> Answer {
     let Memory { session, loaded, image, table, buffer } = memory;
     let (image, table, buffer) = (image.lend(), table.lend(), buffer.lend());
     match *call {
+        Call::ChunkSize { size, blocksize } => counted(raw::chunk_size(size, blocksize)),
         Call::Needs(ref plan) => needs(plan),
         Call::Open(ref plan) => open(plan, session, image, table),
         Call::Write { task } => plain(raw::write(session, image, table, task, buffer)),

@@ -17,6 +17,7 @@ mod reload;
 mod requests;
 mod same;
 mod second;
+mod sizes;
 mod turns;
 
 use counts::Counts;

@@ -74,7 +74,7 @@ impl Memory {
             0 => 0,
             count => self.table.values[(count - 1) * head.n as usize + task],
         };
-        head.sizes[task] as usize - used as usize
+        head.capacity(task) as usize - used as usize
     }
 }
 

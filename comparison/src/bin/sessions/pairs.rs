@@ -6,6 +6,7 @@ use crate::memory::{random_cells, Memory};
 use crate::plan::Plan;
 use crate::requests::{Ask, Entry, Request, OF_LOADED, OF_SESSION};
 use crate::same::same;
+use crate::sizes::{self, Asked};
 use crate::turns::Turns;
 use reference::Rng;
 
@@ -13,6 +14,7 @@ use reference::Rng;
 type OfRecord = (Turns<Request>, Ask);
 
 pub struct Pairs {
+    chunk_size: Turns<Asked>,
     opening: Turns<Plan>,
     session: [OfRecord; OF_SESSION.len()],
     load: Turns<Damaged>,
@@ -24,11 +26,17 @@ impl Pairs {
     pub fn new() -> Pairs {
         let of_record = |(name, tests, ask): Entry| (Turns::new(name, tests), ask);
         Pairs {
+            chunk_size: Turns::new("chunk size", &sizes::TESTS),
             opening: Turns::new("opening", &drawn::TESTS),
             session: OF_SESSION.map(of_record),
             load: Turns::new("load", &damaged::TESTS).and(damaged::PLACE, damaged::RULE),
             loaded: OF_LOADED.map(of_record),
         }
+    }
+
+    /// What a chunk holds.
+    pub fn chunk_size(&mut self, rng: &mut Rng) -> Result<(), String> {
+        self.chunk_size.run(&Asked::sound(rng), rng, |asked, _| Ok(asked.make()?.refusal))
     }
 
     /// An opening.
@@ -74,6 +82,7 @@ impl Pairs {
     fn times(&self) -> impl Iterator<Item = (String, u64)> + '_ {
         let of_record =
             self.session.iter().chain(&self.loaded).flat_map(|(turns, _)| turns.times());
-        self.opening.times().chain(self.load.times()).chain(of_record)
+        let alone = self.chunk_size.times().chain(self.opening.times()).chain(self.load.times());
+        alone.chain(of_record)
     }
 }

@@ -1,4 +1,4 @@
-//! Holds what an opening is given, and the paper's formulas for where its chunks lie and what it needs.
+//! Holds what an opening is given, and the paper's formulas for where its chunks lie, what they hold and what it needs.
 
 use crate::call::{Answer, Call};
 use crate::memory::Memory;
@@ -59,6 +59,11 @@ impl Plan {
     pub fn starts(&self, task: usize) -> Vec<u64> {
         let first = self.d() + self.extended(&self.sizes[..task]);
         (0..u64::from(self.k)).map(|block| first + block * self.extended(&self.sizes)).collect()
+    }
+
+    /// What a chunk of a task holds, which is its extended size, the task counted from 0.
+    pub fn holds(&self, task: usize) -> u64 {
+        self.extended(&self.sizes[task..=task])
     }
 
     /// The least multiple of blocksize that is at least 1088+16n.

@@ -40,7 +40,7 @@ const TASK: Test<Request> = &[("task", 14, |it, _, rng| it.name_none(rng))];
 /// An empty request is accepted where a long one is refused.
 const LENGTH: Test<Request> = &[
     ("empty", 0, |it, _, _| it.memory.buffer = Lent::all(vec![])),
-    ("long", 15, |it, _, rng| it.lengthen(rng)),
+    ("long", 15, |it, task, rng| it.lengthen(task, rng)),
 ];
 const FULL: Test<Request> = &[("full", 16, |it, task, _| it.fill(task))];
 const CHUNK: Test<Request> = &[("chunk", 22, |it, _, rng| it.at = rng.pick(&[0, 33, u64::MAX]))];
@@ -121,10 +121,10 @@ impl Request {
         self.named = rng.pick(&[0, n + 1, u64::MAX]);
     }
 
-    /// One byte more than any task may write at once.
-    fn lengthen(&mut self, rng: &mut Rng) {
-        let longest = self.head().sizes.into_iter().max().unwrap_or(0);
-        self.memory.buffer = Lent::all(rng.bytes(longest as usize + 1));
+    /// One byte more than a chunk of the task holds.
+    fn lengthen(&mut self, task: usize, rng: &mut Rng) {
+        let holds = self.head().capacity(task) as usize;
+        self.memory.buffer = Lent::all(rng.bytes(holds + 1));
     }
 
     /// Every chunk of the task in use, and no room in the last.
@@ -132,7 +132,7 @@ impl Request {
         let Memory { session: Session { head, k }, table, .. } = &mut self.memory;
         head.counts[task] = u64::from(*k);
         for chunk in 0..*k as usize {
-            table.values[chunk * head.n as usize + task] = head.sizes[task] as i64;
+            table.values[chunk * head.n as usize + task] = head.capacity(task) as i64;
         }
     }
 }

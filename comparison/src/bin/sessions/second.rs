@@ -10,6 +10,9 @@ pub fn answer(call: &Call, memory: &mut Memory) -> Answer {
     let Memory { session, loaded, image, table, buffer } = memory;
     let (image, table, buffer) = (image.lend(), table.lend(), buffer.lend());
     let answer = match *call {
+        Call::ChunkSize { size, blocksize } => {
+            reference::chunk_size(size, blocksize).map(|holds| [holds, 0])
+        }
         Call::Needs(ref plan) => needs(plan),
         Call::Open(ref plan) => {
             let opened = open(plan, image, table);

@@ -1,6 +1,6 @@
 -- The loop's invariant: no top bit is set exactly where every cell passed keeps its rule. The measure is the tasks left.
 use Prim.Native.Nat.{ℕ, _+_, _-_, _^_, _≤_}
-use mathlib.Core.Path.{_≡_, ap₂, ap, sym, _∙_}
+use mathlib.Core.Path.{_≡_, ap, sym, _∙_}
 use mathlib.Core.Bool.{Bool, _&&_}
 use native.Mathlib.Nat.{le-antisymm}
 use native.Mathlib.Omega.{arith}
@@ -12,27 +12,23 @@ use mir.Facts.{toZ-ofZ}
 use mir.Syntax.{w64}
 use Rattle.lists.specs.Below.{allBelow}
 use Rattle.lists.proofs.Below.{all-none, all-turn}
-use Rattle.format.specs.Limits.{maxSize}
-use Rattle.format.specs.Layout.{capacity}
-use Rattle.format.proofs.Bounds.{sound-size}
-use Rattle.format.proofs.Chunks.{capacity-small}
 use Rattle.format.specs.Meta2.{valueRule}
 use Rattle.meta2.proofs.row_ok.Statement.{statement}
 use Rattle.meta2.proofs.row_ok.Tie as tie
 
 abbrev Inv-loop : tie.InvT-loop
-Inv-loop cells at k first n blocksize sizes counts bad₀ i₀ bad i =
+Inv-loop cells at k first n holds counts bad₀ i₀ bad i =
     (i ≤ n)
     × (ltb bad (2 ^ 63)
     ≡ allBelow i
-    (λ j. valueRule (ltb k (getD counts (first + j) 0)) (capacity blocksize (getD sizes (first + j) 0)) (getD cells (at + j) (pos 0))))
+    (λ j. valueRule (ltb k (getD counts (first + j) 0)) (getD holds (first + j) 0) (getD cells (at + j) (pos 0))))
 
 abbrev μ-loop : tie.MeasureT-loop
-μ-loop cells at k first n blocksize sizes counts bad₀ i₀ bad i = n - i
+μ-loop cells at k first n holds counts bad₀ i₀ bad i = n - i
 
 -- a turn, from the call that judges its cell, and the call of this function, from a turn
 abbrev turn : tie.After-value-bad Inv-loop μ-loop → tie.In-loop Inv-loop μ-loop
-turn v = v .before .before .before .before .before
+turn v = v .before .before .before .before
 
 abbrev start : tie.In-loop Inv-loop μ-loop → tie.Start Inv-loop μ-loop
 start t = t .before .before .before .before
@@ -41,8 +37,7 @@ start t = t .before .before .before .before
 abbrev Rule : tie.Start Inv-loop μ-loop → ℕ → Bool
 Rule s i =
     let a = s .args in
-    valueRule (ltb (a .k) (getD (a .counts .now) (a .first + i) 0)) (capacity (a .blocksize) (getD (a .sizes .now) (a .first + i) 0))
-    (getD (a .cells .now) (a .at + i) (pos 0))
+    valueRule (ltb (a .k) (getD (a .counts .now) (a .first + i) 0)) (getD (a .holds .now) (a .first + i) 0) (getD (a .cells .now) (a .at + i) (pos 0))
 
 -- what the call answers, of the cell itself: a signed element that was read is what the machine reads back from its bits
 tested : (v : tie.After-value-bad Inv-loop μ-loop)
@@ -52,14 +47,10 @@ tested v =
     let a = start (turn v) .args in
     let l = turn v .before .loop in
     let known = v .before .value-bad-arg .given in
+    let task = a .first + l .i in
     v .value-bad .ensures
-    ∙ ap₂ (λ (h : ℕ) (z : ℤ). ltb (l .bad) (2 ^ 63) && valueRule (ltb (a .k) (getD (a .counts .now) (a .first + l .i) 0)) h z)
-    (v .before .before .before .chunk-holds .ensures)
+    ∙ ap (λ (z : ℤ). ltb (l .bad) (2 ^ 63) && valueRule (ltb (a .k) (getD (a .counts .now) task 0)) (getD (a .holds .now) task 0) z)
     (toZ-ofZ {w = w64} {z = getD (a .cells .now) (a .at + l .i) (pos 0)} (sfits-of known))
-
--- the size of the turn's task
-small : (t : tie.In-loop Inv-loop μ-loop) → getD (start t .args .sizes .now) (start t .args .first + t .before .loop .i) 0 ≤ maxSize
-small t = sound-size (start t .pre .0 .0) (start t .args .first + t .before .loop .i) (search needs) .1
 
 loop-holds : tie.Need-loop-holds Inv-loop μ-loop
 loop-holds c = (search needs, sym (all-none _))
@@ -67,35 +58,32 @@ loop-holds c = (search needs, sym (all-none _))
 add-task : tie.Need-add-task Inv-loop μ-loop
 add-task c = search needs
 
-mul-chunk-holds : tie.Need-mul-chunk-holds Inv-loop μ-loop
-mul-chunk-holds c = search needs
-
-shared-slice-read-chunk-holds : tie.Need-shared-slice-read-chunk-holds Inv-loop μ-loop
-shared-slice-read-chunk-holds c = search needs
-
-chunk-holds-requires : tie.Need-chunk-holds-requires Inv-loop μ-loop
-chunk-holds-requires c κs = (start (c .before) .pre .0 .0 .block, small (c .before))
-
 mul-value-bad : tie.Need-mul-value-bad Inv-loop μ-loop
 mul-value-bad c = search needs
 
 shared-slice-read-value-bad : tie.Need-shared-slice-read-value-bad Inv-loop μ-loop
 shared-slice-read-value-bad c = search needs
 
+mul-value-bad-2 : tie.Need-mul-value-bad-2 Inv-loop μ-loop
+mul-value-bad-2 c = search needs
+
+shared-slice-read-value-bad-2 : tie.Need-shared-slice-read-value-bad-2 Inv-loop μ-loop
+shared-slice-read-value-bad-2 c = omega (arith, start (c .before .before) .pre .0 .0 .listed)
+
 add-value-bad : tie.Need-add-value-bad Inv-loop μ-loop
 add-value-bad c = search needs
 
-mul-value-bad-2 : tie.Need-mul-value-bad-2 Inv-loop μ-loop
-mul-value-bad-2 c = search needs
+mul-value-bad-3 : tie.Need-mul-value-bad-3 Inv-loop μ-loop
+mul-value-bad-3 c = search needs
 
 shared-slice-copy-out-value-bad : tie.Need-shared-slice-copy-out-value-bad Inv-loop μ-loop
 shared-slice-copy-out-value-bad c = search needs
 
 value-bad-requires : tie.Need-value-bad-requires Inv-loop μ-loop
 value-bad-requires c κs =
-    let h = c .before .before in
-    let s = start (h .before .before) in
-    (s .pre .0 .1, omega (arith, h .chunk-holds .ensures, capacity-small (s .args .blocksize) _ (small (h .before .before))))
+    let t = c .before .before .before in
+    let p = start t .pre .0 in
+    (p .1, p .0 .small (start t .args .first + t .before .loop .i) (search needs))
 
 add-i : tie.Need-add-i Inv-loop μ-loop
 add-i c = search needs
@@ -123,13 +111,12 @@ row-ok-spec =
     μ-loop
     loop-holds
     add-task
-    mul-chunk-holds
-    shared-slice-read-chunk-holds
-    chunk-holds-requires
     mul-value-bad
     shared-slice-read-value-bad
-    add-value-bad
     mul-value-bad-2
+    shared-slice-read-value-bad-2
+    add-value-bad
+    mul-value-bad-3
     shared-slice-copy-out-value-bad
     value-bad-requires
     add-i

@@ -7,22 +7,22 @@ use native.Mathlib.Omega.{arith}
 use borrow.Author.Needs.{needs}
 use Rattle.lists.specs.Below.{allBelow}
 use Rattle.lists.proofs.Below.{all-none, all-end, run-holds, run-fails}
-use Rattle.format.proofs.Bounds.{sound-fewer}
 use Rattle.format.specs.Record.{cell}
 use Rattle.meta2.specs.Judging.{ruleAt}
 use Rattle.meta2.proofs.Rows.{row-next, row-placed}
+use Rattle.meta2.proofs.Held.{held-fewer}
 use Rattle.meta2.proofs.span_ok.Statement.{statement}
 use Rattle.meta2.proofs.span_ok.Tie as tie
 
 abbrev Inv-loop : tie.InvT-loop
-Inv-loop cells count k first n blocksize sizes counts at₀ row₀ i₀ at row i =
+Inv-loop cells count k first n holds counts at₀ row₀ i₀ at row i =
     (at ≤ count)
     × (row ≤ k + at)
     × (at < count → (k * n + first + at ≡ row * n + i) × (i < n))
-    × (allBelow at (λ t. ruleAt n blocksize sizes counts (k * n + first + t) (cell cells t)) ≡ true)
+    × (allBelow at (λ t. ruleAt n holds counts (k * n + first + t) (cell cells t)) ≡ true)
 
 abbrev μ-loop : tie.MeasureT-loop
-μ-loop cells count k first n blocksize sizes counts at₀ row₀ i₀ at row i = count - at
+μ-loop cells count k first n holds counts at₀ row₀ i₀ at row i = count - at
 
 -- the call of this function, from a turn, and the rule of each cell
 abbrev start : tie.In-loop Inv-loop μ-loop → tie.Start Inv-loop μ-loop
@@ -31,7 +31,7 @@ start t = t .before .before .before .before
 abbrev Rule : tie.Start Inv-loop μ-loop → ℕ → Bool
 Rule s t =
     let a = s .args in
-    ruleAt (a .n) (a .blocksize) (a .sizes .now) (a .counts .now) (a .k * a .n + a .first + t) (cell (a .cells .now) t)
+    ruleAt (a .n) (a .holds .now) (a .counts .now) (a .k * a .n + a .first + t) (cell (a .cells .now) t)
 
 -- where the turn's first cell stands among the values, and how many are judged: some, all of its row, and no more than are left
 place : (t : tie.In-loop Inv-loop μ-loop)
@@ -58,7 +58,7 @@ tested v =
     let a = start (l .before) .args in
     let t = l .before .before .loop in
     let p = place (l .before) in
-    row-placed (a .n) (a .blocksize) (a .sizes .now) (a .counts .now) (t .row) (t .i) (l .least .result) (λ j. cell (a .cells .now) (t .at + j))
+    row-placed (a .n) (a .holds .now) (a .counts .now) (t .row) (t .i) (l .least .result) (λ j. cell (a .cells .now) (t .at + j))
     (width l .1) (λ j. omega arith) (v .row-ok .ensures)
 
 loop-holds : tie.Need-loop-holds Inv-loop μ-loop
@@ -77,7 +77,7 @@ row-ok-requires : tie.Need-row-ok-requires Inv-loop μ-loop
 row-ok-requires c κs =
     let p = start (c .before) .pre in
     let w = width c in
-    ((sound-fewer (p .0 .0) _ (w .1), omega arith), (omega arith, omega arith))
+    ((held-fewer (p .0 .0) _ (w .1), omega arith), (omega arith, omega arith))
 
 returns : tie.Need-returns Inv-loop μ-loop
 returns c =

@@ -4,7 +4,7 @@ use mathlib.Core.Bool.{Bool, _&&_}
 use Prim.Native.Nat.{_^_}
 use native.Mathlib.Omega.{arith}
 use borrow.Author.Needs.{needs}
-use lib.Bits.{and-le-l}
+use lib.Bits.{bitXor, and-le-l}
 use lib.Dec.{ltb}
 use mir.Facts.{toZ-ofZ}
 use Rattle.endian.specs.Signed.{bitsOf}
@@ -12,8 +12,8 @@ use Rattle.meta2.proofs.Values.{masked}
 use Rattle.meta2.proofs.value_bad.Statement.{statement}
 use Rattle.meta2.proofs.value_bad.Tie as tie
 
-use-mask-requires : tie.Need-use-mask-requires
-use-mask-requires c κs = search needs
+unused-mask-requires : tie.Need-unused-mask-requires
+unused-mask-requires c κs = search needs
 
 bits64-requires : tie.Need-bits64-requires
 bits64-requires c κs = search needs
@@ -21,7 +21,7 @@ bits64-requires c κs = search needs
 over-requires : tie.Need-over-requires
 over-requires c κs =
     let s = c .before .before in
-    omega (arith, s .pre .1, and-le-l (s .args .holds) (c .before .use-mask .result))
+    omega (arith, s .pre .1, and-le-l (s .args .holds) (bitXor (c .before .unused-mask .result) 18446744073709551615))
 
 returns : tie.Need-returns
 returns c =
@@ -30,7 +30,7 @@ returns c =
     c .over .ensures
     ∙ ap (λ (q : Bool). ltb (s .args .bad) (2 ^ 63) && q)
     (masked (s .args .holds) (s .pre .1) (ltb (s .args .k) (s .args .count)) (s .args .value) (s .fits .value .sfits)
-    (b .ensures ∙ ap (bitsOf 63) (toZ-ofZ (s .fits .value))) (b .ok) (c .before .before .use-mask .ensures))
+    (b .ensures ∙ ap (bitsOf 63) (toZ-ofZ (s .fits .value))) (b .ok) (c .before .before .unused-mask .ensures))
 
 pub value-bad-spec : {M : Type 1} → statement M
-value-bad-spec = tie.close (tie.spec use-mask-requires bits64-requires over-requires returns)
+value-bad-spec = tie.close (tie.spec unused-mask-requires bits64-requires over-requires returns)

@@ -12,31 +12,50 @@ use Rattle.lists.specs.Below.{allBelow}
 use Rattle.endian.specs.Signed.{signedAt}
 use Rattle.lists.proofs.Below.{all-none, all-end, run-holds, run-fails}
 use Rattle.lists.proofs.Splice.{splice-list}
-use Rattle.format.specs.Meta2.{valueField}
-use Rattle.format.specs.Record.{cell}
+use Rattle.format.specs.Layout.{capacity}
+use Rattle.format.specs.Meta2.{valueField, valuesRule}
+use Rattle.format.specs.Record.{entry, cell}
 use Rattle.meta2.specs.Judging.{ruleAt}
-use Rattle.meta2.proofs.Rows.{task-in, span-cong, values-placed}
+use Rattle.meta2.proofs.Rows.{task-in, span-cong}
+use Rattle.meta2.proofs.Held.{held-listed, held-values}
 use Rattle.format.proofs.Chunks.{meta2-parts}
-use Rattle.meta2.proofs.values_ok.Statement.{statement}
-use Rattle.meta2.proofs.values_ok.Tie as tie
+use Rattle.meta2.proofs.values_held.Statement.{statement}
+use Rattle.meta2.proofs.values_held.Tie as tie
 
 abbrev Inv-loop : tie.InvT-loop
-Inv-loop part big n blocksize sizes counts m cells tile₀ j₀ tile j =
+Inv-loop holds part big n blocksize sizes counts m cells tile₀ j₀ tile j =
     (j ≤ cells)
     × (length tile ≡ length tile₀)
-    × (allBelow j (λ t. ruleAt n blocksize sizes counts t (valueField big part n t)) ≡ true)
+    × (allBelow j (λ t. ruleAt n holds counts t (valueField big part n t)) ≡ true)
 
 abbrev μ-loop : tie.MeasureT-loop
-μ-loop part big n blocksize sizes counts m cells tile₀ j₀ tile j = cells - j
+μ-loop holds part big n blocksize sizes counts m cells tile₀ j₀ tile j = cells - j
 
--- the call of this function, from a turn, and the rule of each value
+-- the list of what chunks hold, from a turn; the call of this function, from the list and from a turn; and the rule of each value
+abbrev listed : tie.In-loop Inv-loop μ-loop → tie.After-chunks-hold Inv-loop μ-loop
+listed t = t .before .before .before .before
+
+abbrev called : tie.After-chunks-hold Inv-loop μ-loop → tie.Start Inv-loop μ-loop
+called h = h .before .before .before .before .before .before
+
 abbrev start : tie.In-loop Inv-loop μ-loop → tie.Start Inv-loop μ-loop
-start t = t .before .before .before .before .before
+start t = called (listed t)
 
-abbrev Rule : tie.Start Inv-loop μ-loop → ℕ → Bool
-Rule s t =
-    let a = s .args in
-    ruleAt (a .n) (a .blocksize) (a .sizes .now) (a .counts .now) t (valueField (a .big) (a .part .now) (a .n) t)
+abbrev Rule : tie.After-chunks-hold Inv-loop μ-loop → ℕ → Bool
+Rule h t =
+    let a = called h .args in
+    ruleAt (a .n) (h .chunks-hold .last .0) (a .counts .now) t (valueField (a .big) (a .part .now) (a .n) t)
+
+-- the rule of all values
+judged : (h : tie.After-chunks-hold Inv-loop μ-loop)
+    → let a = called h .args in
+    allBelow (a .n * a .m) (Rule h)
+    ≡ valuesRule (a .n) (a .m) (λ i. capacity (a .blocksize) (entry (a .sizes .now) i)) (entry (a .counts .now))
+    (valueField (a .big) (a .part .now) (a .n))
+judged h =
+    let a = called h .args in
+    let p = called h .pre .0 in
+    held-values (p .0) _ (p .2) (h .chunks-hold .ensures) (a .counts .now) (valueField (a .big) (a .part .now) (a .n)) (a .m)
 
 -- the turn's values: the first is a task's, there are some, and they are within the values, the tile and the part
 first : (t : tie.In-loop Inv-loop μ-loop) → t .before .loop .j % start t .args .n < start t .args .n
@@ -58,18 +77,22 @@ in-part l =
     let a = start (l .before) .args in
     omega (arith, width l, meta2-parts (a .n) (a .m), start (l .before) .pre .1 .1)
 
--- what the call answers of the values, which the tile has from its start on
+-- the width of a turn, from the call that judges its values
+abbrev turn : tie.After-span-ok Inv-loop μ-loop → tie.After-least Inv-loop μ-loop
+turn v = v .before .before .before .before .before .before
+
+-- what that call answers of the values, which the tile has from its start on
 tested : (v : tie.After-span-ok Inv-loop μ-loop)
-    → let l = v .before .before .before .before .before in
-    v .span-ok .result ≡ allBelow (l .least .result) (λ t. Rule (start (l .before)) (l .before .before .loop .j + t))
+    → let l = turn v in
+    v .span-ok .result ≡ allBelow (l .least .result) (λ t. Rule (listed (l .before)) (l .before .before .loop .j + t))
 tested v =
-    let f = v .before .before .before in
-    let l = f .before .before in
+    let f = v .before .before .before .before in
+    let l = turn v in
     let a = start (l .before) .args in
     let j = l .before .before .loop .j in
     let decoded : ℕ → ℤ = λ t. signedAt (a .big) 8 (a .part .now) (8 * a .n + 8 * j + 8 * t) in
     let stands : (t : ℕ) → 8 * a .n + 8 * j + 8 * t ≡ 8 * a .n + 8 * (j + t) = λ t. omega arith in
-    span-cong (a .n) (a .blocksize) (a .sizes .now) (a .counts .now) (l .least .result)
+    span-cong (a .n) (listed (l .before) .chunks-hold .last .0) (a .counts .now) (l .least .result)
     (λ t. omega (arith, div-add-mod' j (a .n)))
     (λ t h.
     ap (λ (tile : List ℤ). cell tile t) (f .fill .ensures)
@@ -77,9 +100,12 @@ tested v =
     ∙ ap (signedAt (a .big) 8 (a .part .now)) (stands t))
     (v .span-ok .ensures)
 
+chunks-hold-requires : tie.Need-chunks-hold-requires Inv-loop μ-loop
+chunks-hold-requires c κs = search needs
+
 mul-cells : tie.Need-mul-cells Inv-loop μ-loop
 mul-cells c =
-    let p = c .before .before .before .pre .0 in
+    let p = called (c .before .before) .pre .0 in
     omega (arith, mul-le-mul (p .0 .tasks) (p .1))
 
 loop-holds : tie.Need-loop-holds Inv-loop μ-loop
@@ -117,46 +143,50 @@ rem-span-ok c = omega (arith, first (c .before .before .before .before .before))
 
 span-ok-requires : tie.Need-span-ok-requires Inv-loop μ-loop
 span-ok-requires c κs =
-    let l = c .before .before .before .before in
-    let p = start (l .before) .pre in
-    let few = div-le-self (l .before .before .loop .j) (start (l .before) .args .n) in
-    ((p .0 .0, p .1 .0), (search needs, omega (arith, in-part l), λ some. first (l .before)))
+    let l = c .before .before .before .before .before in
+    let h = listed (l .before) in
+    let p = called h .pre in
+    let few = div-le-self (l .before .before .loop .j) (called h .args .n) in (
+      (held-listed (p .0 .0) _ (p .0 .2) (h .chunks-hold .ensures), p .1 .0),
+      (search needs, omega (arith, in-part l), λ some. first (l .before)),
+    )
+
+same-length : tie.Need-same-length Inv-loop μ-loop
+same-length c = search needs
 
 returns : tie.Need-returns Inv-loop μ-loop
 returns c =
-    let k = c .before .before .before in
-    let l = k .before .before .before in
-    let s = start (l .before) in
-    let a = s .args in
-    run-fails (Rule s) (l .before .before .loop .j) (l .least .result) (width l .1) (tested (c .before)) (c .if1 .taken)
-    ∙ values-placed (a .n) (a .blocksize) (a .sizes .now) (a .counts .now) (valueField (a .big) (a .part .now) (a .n)) (a .m)
+    let l = turn (c .before) in
+    let h = listed (l .before) in
+    run-fails (Rule h) (l .before .before .loop .j) (l .least .result) (width l .1) (tested (c .before)) (c .if1 .taken) ∙ judged h
 
 add-j : tie.Need-add-j Inv-loop μ-loop
-add-j c = let k = c .before .before .before in omega (arith, in-part (k .before .before .before))
+add-j c = omega (arith, in-part (turn (c .before)))
 
 loop-less : tie.Need-loop-less Inv-loop μ-loop
-loop-less c = let k = c .before .before .before in omega (arith, width (k .before .before .before))
+loop-less c = omega (arith, width (turn (c .before)))
 
 loop-again : tie.Need-loop-again Inv-loop μ-loop
 loop-again c =
-    let k = c .before .before .before in
-    let l = k .before .before .before in
+    let l = turn (c .before) in
     let t = l .before .before .loop in
-    (width l .1, search needs, run-holds (Rule (start (l .before))) (t .j) (l .least .result) (t .inv .2) (tested (c .before)) (c .if1 .left))
+    (width l .1, search needs, run-holds (Rule (listed (l .before))) (t .j) (l .least .result) (t .inv .2) (tested (c .before)) (c .if1 .left))
+
+same-length-2 : tie.Need-same-length-2 Inv-loop μ-loop
+same-length-2 c = search needs
 
 returns-2 : tie.Need-returns-2 Inv-loop μ-loop
 returns-2 c =
-    let s = c .before .before .before .before .before in
-    let a = s .args in
-    all-end (Rule s) (search needs) (search needs) (c .before .loop .inv .2)
-    ∙ values-placed (a .n) (a .blocksize) (a .sizes .now) (a .counts .now) (valueField (a .big) (a .part .now) (a .n)) (a .m)
+    let h = c .before .before .before .before in
+    all-end (Rule h) (search needs) (search needs) (c .before .loop .inv .2) ∙ judged h
 
-pub values-ok-spec : {M : Type 1} → statement M
-values-ok-spec =
+pub values-held-spec : {M : Type 1} → statement M
+values-held-spec =
     tie.close
     (tie.spec
     Inv-loop
     μ-loop
+    chunks-hold-requires
     mul-cells
     loop-holds
     sub-least
@@ -170,8 +200,10 @@ values-ok-spec =
     div-span-ok
     rem-span-ok
     span-ok-requires
+    same-length
     returns
     add-j
     loop-less
     loop-again
+    same-length-2
     returns-2)
