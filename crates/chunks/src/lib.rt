@@ -43,7 +43,7 @@ fn part_of(l: Loaded, lists: &[u64], image: &[u8], table: &[i64], task: u64, chu
     let sizes = &lists[head::SIZES..head::COUNTS];
     let start = layout::chunk_start(sizes, h.n, h.blocksize, task, chunk);
     let at = (chunk - 1) as usize * h.n as usize + (task - 1) as usize;
-    let length = meta2::written(table, at);
+    let length = tables::written(table, at);
     Part {
         refusal: 0,
         start,

@@ -26,7 +26,7 @@ fn total_of(l: Loaded, lists: &[u64], image: &[u8], table: &[i64], task: u64) ->
     let mut sum = 0;
     let mut k = 0;
     while k < count {
-        sum += meta2::written(table, at);
+        sum += tables::written(table, at);
         at += n;
         k += 1;
     }

@@ -48,7 +48,7 @@ pub fn record_refusal(
         return refusal::TOO_SHORT;
     }
     let counts = &lists[head::COUNTS..head::LISTS];
-    if !meta2::cells_ok(table, n, h.blocksize, sizes, counts, m) {
+    if !tables::cells_ok(table, n, h.blocksize, sizes, counts, m) {
         return refusal::CELLS_DISAGREE;
     }
     0

@@ -77,7 +77,7 @@ fn place(
         return next_chunk(s.planned, begun);
     }
     let at = (begun - 1) as usize * s.head.n as usize + i;
-    let last = meta2::written(table, at);
+    let last = tables::written(table, at);
     if length <= holds - last {
         return Decision {
             refusal: 0,
@@ -157,7 +157,7 @@ fn request(
         d.from,
         bytes,
     );
-    table[at] = meta2::cell_of(d.from + bytes.len() as u64);
+    table[at] = tables::cell_of(d.from + bytes.len() as u64);
     lists[head::COUNTS + i] = chunk;
     0
 }

@@ -15,9 +15,9 @@ use Rattle.lists.proofs.Splice.{splice-list}
 use Rattle.format.specs.Layout.{capacity}
 use Rattle.format.specs.Meta2.{valueField, valuesRule}
 use Rattle.format.specs.Record.{entry, cell}
-use Rattle.meta2.specs.Judging.{ruleAt}
-use Rattle.meta2.proofs.Rows.{task-in, span-cong}
-use Rattle.meta2.proofs.Held.{held-listed, held-values}
+use Rattle.tables.specs.Spans.{ruleAt}
+use Rattle.tables.proofs.Rows.{task-in, span-cong}
+use Rattle.tables.proofs.Held.{held-listed, held-values}
 use Rattle.format.proofs.Chunks.{meta2-parts}
 use Rattle.meta2.proofs.values_held.Statement.{statement}
 use Rattle.meta2.proofs.values_held.Tie as tie

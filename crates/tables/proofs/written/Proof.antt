@@ -11,9 +11,9 @@ use borrow.Author.Needs.{needs, sfits-of}
 use borrow.Author.Tests.{ltb-true}
 use Rattle.endian.specs.Signed.{natural}
 use Rattle.format.specs.Record.{cell}
-use Rattle.meta2.proofs.Values.{value-casts}
-use Rattle.meta2.proofs.written.Statement.{statement}
-use Rattle.meta2.proofs.written.Tie as tie
+use Rattle.tables.proofs.Values.{value-casts}
+use Rattle.tables.proofs.written.Statement.{statement}
+use Rattle.tables.proofs.written.Tie as tie
 
 natural-negative : (z : ℤ) → ltZ z (pos 0) ≡ true → 0 ≡ natural z
 natural-negative (pos n) l = absurd (omega (arith, ltb-true n 0 l))

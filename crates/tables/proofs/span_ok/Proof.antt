@@ -8,11 +8,11 @@ use borrow.Author.Needs.{needs}
 use Rattle.lists.specs.Below.{allBelow}
 use Rattle.lists.proofs.Below.{all-none, all-end, run-holds, run-fails}
 use Rattle.format.specs.Record.{cell}
-use Rattle.meta2.specs.Judging.{ruleAt}
-use Rattle.meta2.proofs.Rows.{row-next, row-placed}
-use Rattle.meta2.proofs.Held.{held-fewer}
-use Rattle.meta2.proofs.span_ok.Statement.{statement}
-use Rattle.meta2.proofs.span_ok.Tie as tie
+use Rattle.tables.specs.Spans.{ruleAt}
+use Rattle.tables.proofs.Rows.{row-next, row-placed}
+use Rattle.tables.proofs.Held.{held-fewer}
+use Rattle.tables.proofs.span_ok.Statement.{statement}
+use Rattle.tables.proofs.span_ok.Tie as tie
 
 abbrev Inv-loop : tie.InvT-loop
 Inv-loop cells count k first n holds counts at₀ row₀ i₀ at row i =

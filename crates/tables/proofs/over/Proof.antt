@@ -5,9 +5,9 @@ use Prim.Native.Nat.{_^_}
 use borrow.Author.Needs.{needs}
 use lib.Bits.{bitOr}
 use lib.Dec.{ltb}
-use Rattle.meta2.proofs.Values.{or-top, at-most}
-use Rattle.meta2.proofs.over.Statement.{statement}
-use Rattle.meta2.proofs.over.Tie as tie
+use Rattle.tables.proofs.Values.{or-top, at-most}
+use Rattle.tables.proofs.over.Statement.{statement}
+use Rattle.tables.proofs.over.Tie as tie
 
 wrapping-sub-u64-requires : tie.Need-wrapping-sub-u64-requires
 wrapping-sub-u64-requires c κs = search needs

@@ -3,8 +3,8 @@ use native.Mathlib.Omega.{arith}
 use borrow.Author.Needs.{needs}
 use mir.Facts.{toZ-pos}
 use mir.Syntax.{w64}
-use Rattle.meta2.proofs.cell_of.Statement.{statement}
-use Rattle.meta2.proofs.cell_of.Tie as tie
+use Rattle.tables.proofs.cell_of.Statement.{statement}
+use Rattle.tables.proofs.cell_of.Tie as tie
 
 cast-result : tie.Need-cast-result
 cast-result c = search needs

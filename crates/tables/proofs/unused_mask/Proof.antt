@@ -1,8 +1,8 @@
 -- By the top bit of the count and of the difference.
 use borrow.Author.Needs.{needs}
-use Rattle.meta2.proofs.Values.{mask-is}
-use Rattle.meta2.proofs.unused_mask.Statement.{statement}
-use Rattle.meta2.proofs.unused_mask.Tie as tie
+use Rattle.tables.proofs.Values.{mask-is}
+use Rattle.tables.proofs.unused_mask.Statement.{statement}
+use Rattle.tables.proofs.unused_mask.Tie as tie
 
 add-wrapping-sub-u64 : tie.Need-add-wrapping-sub-u64
 add-wrapping-sub-u64 c = search needs

@@ -3,10 +3,10 @@ use native.Mathlib.Nat.{mul-le-mul}
 use native.Mathlib.Omega.{arith}
 use borrow.Author.Needs.{needs}
 use Rattle.format.specs.Record.{cell}
-use Rattle.meta2.proofs.Rows.{task-in}
-use Rattle.meta2.proofs.Held.{held-listed, held-span}
-use Rattle.meta2.proofs.cells_held.Statement.{statement}
-use Rattle.meta2.proofs.cells_held.Tie as tie
+use Rattle.tables.proofs.Rows.{task-in}
+use Rattle.tables.proofs.Held.{held-listed, held-span}
+use Rattle.tables.proofs.cells_held.Statement.{statement}
+use Rattle.tables.proofs.cells_held.Tie as tie
 
 -- the call of this function, from what follows the list of what chunks hold
 abbrev start : tie.After-chunks-hold → tie.Start

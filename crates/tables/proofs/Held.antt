@@ -17,8 +17,8 @@ use Rattle.format.specs.Record.{entry}
 use Rattle.format.proofs.Bounds.{sound-size}
 use Rattle.format.proofs.Chunks.{capacity-small}
 use Rattle.format.proofs.Rules.{values-agree}
-use Rattle.meta2.specs.Judging.{ruleAt, HoldsListed}
-use Rattle.meta2.proofs.Rows.{span-cong, values-placed}
+use Rattle.tables.specs.Spans.{ruleAt, HoldsListed}
+use Rattle.tables.proofs.Rows.{span-cong, values-placed}
 
 pub held-fewer : {n : ℕ} {held : List ℕ} → HoldsListed n held → (m : ℕ) → m ≤ n → HoldsListed m held
 held-fewer h m l = record { listed = omega (arith, h .listed); small = λ i u. h .small i (omega arith) }

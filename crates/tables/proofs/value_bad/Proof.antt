@@ -8,9 +8,9 @@ use lib.Bits.{bitXor, and-le-l}
 use lib.Dec.{ltb}
 use mir.Facts.{toZ-ofZ}
 use Rattle.endian.specs.Signed.{bitsOf}
-use Rattle.meta2.proofs.Values.{masked}
-use Rattle.meta2.proofs.value_bad.Statement.{statement}
-use Rattle.meta2.proofs.value_bad.Tie as tie
+use Rattle.tables.proofs.Values.{masked}
+use Rattle.tables.proofs.value_bad.Statement.{statement}
+use Rattle.tables.proofs.value_bad.Tie as tie
 
 unused-mask-requires : tie.Need-unused-mask-requires
 unused-mask-requires c κs = search needs

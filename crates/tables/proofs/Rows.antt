@@ -13,7 +13,7 @@ use Rattle.lists.specs.Below.{allBelow}
 use Rattle.lists.proofs.Below.{all-cong, all-part}
 use Rattle.format.specs.Meta2.{valueRule, valuesRule}
 use Rattle.format.specs.Record.{entry}
-use Rattle.meta2.specs.Judging.{ruleAt}
+use Rattle.tables.specs.Spans.{ruleAt}
 
 -- a row ends where the next one starts
 pub row-next : (n k : ℕ) → k * n + n ≡ (k + 1) * n

@@ -13,8 +13,8 @@ use mir.Syntax.{w64}
 use Rattle.lists.specs.Below.{allBelow}
 use Rattle.lists.proofs.Below.{all-none, all-turn}
 use Rattle.format.specs.Meta2.{valueRule}
-use Rattle.meta2.proofs.row_ok.Statement.{statement}
-use Rattle.meta2.proofs.row_ok.Tie as tie
+use Rattle.tables.proofs.row_ok.Statement.{statement}
+use Rattle.tables.proofs.row_ok.Tie as tie
 
 abbrev Inv-loop : tie.InvT-loop
 Inv-loop cells at k first n holds counts bad₀ i₀ bad i =
