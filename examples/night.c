@@ -17,7 +17,7 @@
 enum { STATIONS = 3 };
 
 /* The plan: its numbers, each station's rank, and the bytes that it requests for a chunk; rounded up to the blocksize, each chunk holds 512. */
-static const struct lapur_plan plan = {.order = LAPUR_BIG, .version = 1, .patch = 7, .blocksize = 512, .planned = 5};
+static const struct lapur_plan plan = {.order = LAPUR_BIG, .version = 1, .patch = 7, .format = LAPUR_FORMAT_3, .blocksize = 512, .planned = 5};
 static const uint64_t ranks[STATIONS] = {40, 7, 12};
 static const uint64_t sizes[STATIONS] = {500, 48, 96};
 static const uint8_t prefix[] = "railway/night";

@@ -28,7 +28,7 @@
  * Answers. Every call is accepted, with the number 0, or refused with the number of the first of its tests that fails. A refused call
  * changes nothing: no byte of the image or of an output, no cell of the table, nothing of a lent record. An accepted load says that the
  * container's structure is whole, not that its bytes are the ones that were sent: the format has no checksum, so a changed byte in a
- * chunk, the padding, the two version numbers, the flags, the prefix, a rank, a requested size or a written length may pass. Send a
+ * chunk, the padding, the three version numbers, the flags, the prefix, a rank, a requested size or a written length may pass. Send a
  * checksum such as sha256sum's beside the file.
  *
  * What may come in. Any values at all: records, images, tables and numbers are tested by each call, and nothing has to hold beforehand.
@@ -63,8 +63,8 @@ extern "C" {
 #endif
 
 /* The version of this header: 10,000 times its first number, 100 times its second, and its third. */
-#define LAPUR_VERSION 200
-#define LAPUR_VERSION_TEXT "0.2.0"
+#define LAPUR_VERSION 300
+#define LAPUR_VERSION_TEXT "0.3.0"
 
 /* The most tasks of a container, and the entries that a record has for them. */
 #define LAPUR_TASKS 64
@@ -84,6 +84,12 @@ enum lapur_order {
     LAPUR_BIG = 1
 };
 
+/* A container's fileformat_version. In 4 a task that wrote nothing has its first chunk in use all the same, with 0 bytes; in 3 it has none. */
+enum lapur_format {
+    LAPUR_FORMAT_3 = 3,
+    LAPUR_FORMAT_4 = 4
+};
+
 /* The refusal numbers, each with what holds where it is given and all earlier tests passed. */
 enum lapur_refusal {
     /* the image is under 4 bytes, or does not begin with sion */
@@ -92,7 +98,7 @@ enum lapur_refusal {
     LAPUR_NO_ORDER = 2,
     /* the image is under 1076 bytes; later, under 1088 + 16 n bytes */
     LAPUR_SHORT_META1 = 3,
-    /* fileformat_version is not 3 */
+    /* fileformat_version is neither 3 nor 4 */
     LAPUR_BAD_FORMAT = 4,
     /* blocksize is no power of two from 512 to 4,194,304 */
     LAPUR_BAD_BLOCKSIZE = 5,
@@ -142,7 +148,7 @@ static inline const char *lapur_sentence(uint32_t refusal)
     case LAPUR_NO_MARK: return "the image is under 4 bytes, or does not begin with sion";
     case LAPUR_NO_ORDER: return "the image is under 8 bytes, or the order number is 1 in neither byte order; at opening, the order is neither 0 nor 1";
     case LAPUR_SHORT_META1: return "the image is under 1076 bytes; later, under 1088 + 16 n bytes";
-    case LAPUR_BAD_FORMAT: return "fileformat_version is not 3";
+    case LAPUR_BAD_FORMAT: return "fileformat_version is neither 3 nor 4";
     case LAPUR_BAD_BLOCKSIZE: return "blocksize is no power of two from 512 to 4,194,304";
     case LAPUR_BAD_TASKS: return "ntasks is not from 1 to 64; at opening also, the lists of ranks and sizes are not equally long";
     case LAPUR_BAD_FILES: return "nfiles is not 1, or filenumber is not 0";
@@ -181,6 +187,7 @@ struct lapur_session_numbers {
     uint32_t order;                        /* the byte order: LAPUR_LITTLE or LAPUR_BIG */
     int32_t version;                       /* the library version, any number */
     int32_t patch;                         /* the patch level, any number */
+    uint32_t format;                       /* fileformat_version: LAPUR_FORMAT_3 or LAPUR_FORMAT_4 */
     uint32_t blocksize;                    /* the bytes of a file-system block, a power of two from 512 to 4,194,304 */
     uint32_t n;                            /* the number of tasks, 1 to 64 */
     uint32_t planned;                      /* the planned blocks K, the most chunks of a task, 1 to 32 */
@@ -192,14 +199,15 @@ struct lapur_session {
     struct lapur_session_numbers numbers;
     uint64_t ranks[LAPUR_TASKS];           /* each task's global rank, 0 to 2,147,483,647, all different, in any order */
     uint64_t sizes[LAPUR_TASKS];           /* each task's requested size, 1 to 1,073,741,824; lapur_chunk_size says what a chunk holds */
-    uint64_t counts[LAPUR_TASKS];          /* the chunks that each task has begun */
+    uint64_t counts[LAPUR_TASKS];          /* the chunks that each task has begun; in format 4 at least 1 */
 };
 
 /* The numbers of a loaded container's record. */
 struct lapur_loaded_numbers {
-    uint32_t order;                        /* as in a session's record, and so are the next four */
+    uint32_t order;                        /* as in a session's record, and so are the next five */
     int32_t version;
     int32_t patch;
+    uint32_t format;
     uint32_t blocksize;
     uint32_t n;
     uint32_t maxchunks;                    /* the greatest number of chunks that a task used, 0 to 32 */
@@ -211,14 +219,15 @@ struct lapur_loaded {
     struct lapur_loaded_numbers numbers;
     uint64_t ranks[LAPUR_TASKS];           /* each task's global rank */
     uint64_t sizes[LAPUR_TASKS];           /* each task's requested size, as in a session's record */
-    uint64_t counts[LAPUR_TASKS];          /* the chunks that each task used */
+    uint64_t counts[LAPUR_TASKS];          /* the chunks that each task used; in format 4 at least 1 */
 };
 
 /* What a session is opened with, beside the ranks, the sizes and the filename prefix. */
 struct lapur_plan {
-    uint32_t order;                        /* as in a session's record, and so are the next three */
+    uint32_t order;                        /* as in a session's record, and so are the next four */
     int32_t version;
     int32_t patch;
+    uint32_t format;
     uint32_t blocksize;
     uint32_t planned;                      /* the planned blocks K, 1 to 32 */
 };
@@ -274,15 +283,15 @@ struct lapur_byte_count {
 
 /* The sizes that these records have in the library: a compiler that is told to lay them out otherwise stops here. */
 #define LAPUR_SIZE(record, bytes) typedef char lapur_##record##_size[sizeof(struct lapur_##record) == (bytes) ? 1 : -1]
-LAPUR_SIZE(session_numbers, 28);
+LAPUR_SIZE(session_numbers, 32);
 LAPUR_SIZE(session, 1568);
-LAPUR_SIZE(loaded_numbers, 28);
+LAPUR_SIZE(loaded_numbers, 32);
 LAPUR_SIZE(loaded, 1568);
-LAPUR_SIZE(plan, 20);
+LAPUR_SIZE(plan, 24);
 LAPUR_SIZE(needed, 24);
 LAPUR_SIZE(opened, 1576);
 LAPUR_SIZE(closed, 16);
-LAPUR_SIZE(closed_lent, 40);
+LAPUR_SIZE(closed_lent, 48);
 LAPUR_SIZE(load_answer, 1576);
 LAPUR_SIZE(part, 24);
 LAPUR_SIZE(byte_count, 16);
@@ -325,7 +334,7 @@ struct lapur_byte_count lapur_chunk_size(
  * What an opening with this plan needs. The number of tasks is the length of both lists; `sizes` are the requested sizes; `prefix` is the
  * filename prefix, at most 1024 bytes, with no zero at its end. The version and the patch level of the plan do not matter.
  *
- * Tests: 2, 5, 6, 21, 8, 9, 20.
+ * Tests: 2, 4, 5, 6, 21, 8, 9, 20.
  * Refused: both lengths are 0.
  */
 struct lapur_needed lapur_needs(
@@ -337,9 +346,10 @@ struct lapur_needed lapur_needs(
 /*
  * Opens a session. The image and the table are at least as long as lapur_needs says for the same plan.
  *
- * Tests: 2, 5, 6, 21, 8, 9, 20, 18.
- * Changes: the image from its start to chunk 1 of task 1, which becomes META1 and zeros; the first n * planned cells, which become -1.
- * Hands back: the record, with no chunk begun and the closed mark unset. Refused: a record of zeros, marked closed.
+ * Tests: 2, 4, 5, 6, 21, 8, 9, 20, 18.
+ * Changes: the image from its start to chunk 1 of task 1, which becomes META1 and zeros; the first n * planned cells, which become -1, but
+ * in format 4 the first n of them 0.
+ * Hands back: the record, with all counts 0, in format 4 all 1, and the closed mark unset. Refused: a record of zeros, marked closed.
  */
 struct lapur_opened lapur_open(
     struct lapur_plan plan,
@@ -360,7 +370,8 @@ uint32_t lapur_write_lent(
 /*
  * Writes bytes to a task: straight after its last bytes if they fit in the chunk in use, else to the start of its next chunk. They are
  * never split. What fits is told by the chunk size, not by the requested size: a request may have as many bytes as lapur_chunk_size
- * counts, and one byte more is refused with 15. An empty request changes nothing.
+ * counts, and one byte more is refused with 15. An empty request changes nothing. Whether a request is taken, and where its bytes go,
+ * does not depend on the format.
  *
  * Tests: 17, 18, 19, 14, then an empty request is accepted, 15, 16.
  * Changes: those bytes of the image, the chunk's cell and the task's count in the record. Refused: nothing, and the session goes on.

@@ -1,7 +1,7 @@
 /*
  * Holds the header's inline functions to the whole record that they are given: with any one of its numbers or entries spoilt a call is refused
- * with 17 and changes nothing, and what is not judged comes through a session as it was. What lapur_chunk_size answers is held to what a write
- * takes, and to its numbers at the bounds. It is C, and C++ too; tests/example runs it as both.
+ * with 17 and changes nothing, and what is not judged comes through a session as it was, in both byte orders and both formats. What
+ * lapur_chunk_size answers is held to what a write takes, and to its numbers at the bounds. It is C, and C++ too; tests/example runs it as both.
  */
 #include <stdio.h>
 #include <stdlib.h>
@@ -69,6 +69,9 @@ static int spoil_session(struct lapur_session *session, int which)
     case 9: session->sizes[TASKS - 1] = UINT64_MAX; return 1;
     case 10: session->counts[0] = K + 1; return 1;
     case 11: session->counts[TASKS - 1] = K + 1; return 1;
+    case 12: session->numbers.format = 0; return 1;
+    case 13: session->numbers.format = 5; return 1;
+    case 14: session->numbers.format = LAPUR_FORMAT_4; session->counts[1] = 0; return 1;
     default: return 0;
     }
 }
@@ -88,31 +91,45 @@ static int spoil_loaded(struct lapur_loaded *loaded, int which)
     case 9: loaded->sizes[TASKS - 1] = UINT64_MAX; return 1;
     case 10: loaded->counts[0] = K + 1; return 1;
     case 11: loaded->counts[TASKS - 1] = K + 1; return 1;
+    case 12: loaded->numbers.format = 0; return 1;
+    case 13: loaded->numbers.format = 5; return 1;
+    case 14: loaded->numbers.format = LAPUR_FORMAT_4; loaded->counts[1] = 0; return 1;
     default: return 0;
     }
 }
 
-/* Opens a session and writes to it. */
-static void fill(struct session *s, uint32_t order)
+/* The chunks in use of a task, counted from 0, that has begun so many: in format 4 at least one. */
+static uint64_t used(uint32_t format, uint64_t chunks)
 {
-    struct lapur_plan plan = {order, -3, 77, 512, K};
+    return format == LAPUR_FORMAT_4 && chunks == 0 ? 1 : chunks;
+}
+
+/* Opens a session and writes to it. */
+static void fill(struct session *s, uint32_t order, uint32_t format)
+{
+    struct lapur_plan plan = {order, -3, 77, format, 512, K};
     struct lapur_needed needed = lapur_needs(plan, ranks, TASKS, sizes, TASKS, line, LINE);
     hold(needed.refusal == 0 && needed.image <= BYTES && needed.cells == CELLS, "what the plan needs", (int)order);
     memset(s, 0, sizeof *s);
     struct lapur_opened opened = lapur_open(plan, ranks, TASKS, sizes, TASKS, line, LINE, s->image, BYTES, s->table, CELLS);
     hold(opened.refusal == 0, "the opening", (int)order);
     s->record = opened.session;
-    const struct lapur_session_numbers numbers = {order, -3, 77, 512, TASKS, K, 0};
+    const struct lapur_session_numbers numbers = {order, -3, 77, format, 512, TASKS, K, 0};
     uint64_t lists[LAPUR_LISTS] = {0};
     memcpy(lists, ranks, sizeof ranks);
     memcpy(lists + LAPUR_TASKS, sizes, sizeof sizes);
+    for (int task = 0; task < TASKS; task++) {
+        lists[2 * LAPUR_TASKS + task] = used(format, 0);
+        hold(s->table[task] == (format == LAPUR_FORMAT_4 ? 0 : -1) && s->table[TASKS + task] == -1, "the cells of a session just opened", task);
+    }
     hold(memcmp(&s->record.numbers, &numbers, sizeof numbers) == 0, "the numbers of a session just opened", (int)order);
     hold(same_lists(lapur_session_lists(&s->record), lists), "the lists of a session just opened", (int)order);
 
     for (uint64_t task = 1; task <= TASKS; task++)
         for (uint64_t i = 0; i < lines[task - 1]; i++)
             hold(write_to(s, task, LINE) == 0, "a write", (int)task);
-    memcpy(lists + 2 * LAPUR_TASKS, begun, sizeof begun);
+    for (int task = 0; task < TASKS; task++)
+        lists[2 * LAPUR_TASKS + task] = used(format, begun[task]);
     hold(memcmp(&s->record.numbers, &numbers, sizeof numbers) == 0, "the numbers of a session after writes", (int)order);
     hold(same_lists(lapur_session_lists(&s->record), lists), "the lists of a session after writes", (int)order);
 }
@@ -176,7 +193,8 @@ static void read_it(struct load *l, const struct session *s)
     struct lapur_load_answer answer = lapur_load(l->image, BYTES, l->table, CELLS);
     hold(answer.refusal == 0, "the load", 0);
     l->record = answer.loaded;
-    const struct lapur_loaded_numbers numbers = {s->record.numbers.order, -3, 77, 512, TASKS, K, 0};
+    const uint32_t format = s->record.numbers.format;
+    const struct lapur_loaded_numbers numbers = {s->record.numbers.order, -3, 77, format, 512, TASKS, K, 0};
     hold(memcmp(&l->record.numbers, &numbers, sizeof numbers) == 0, "the numbers of a load", 0);
     l->record.numbers.version = 0;
     l->record.numbers.patch = INT32_MAX;
@@ -189,12 +207,31 @@ static void read_it(struct load *l, const struct session *s)
         struct lapur_part part = lapur_chunk(record, l->image, BYTES, l->table, CELLS, task, 1);
         hold(total.refusal == 0 && total.bytes == lines[task - 1] * LINE, "a total", (int)task);
         hold(copied.refusal == 0 && copied.bytes == total.bytes, "a read", (int)task);
-        hold(part.refusal == (uint32_t)(begun[task - 1] == 0 ? LAPUR_NO_CHUNK : 0), "a chunk", (int)task);
+        hold(part.refusal == (uint32_t)(used(format, begun[task - 1]) == 0 ? LAPUR_NO_CHUNK : 0), "a chunk", (int)task);
         hold(part.length == first[task - 1], "the length of a chunk", (int)task);
         hold(memcmp(l->image + part.start, out, (size_t)part.length) == 0, "the bytes of a chunk", (int)task);
         for (uint64_t i = 0; i < copied.bytes; i++)
             hold(out[i] == line[i % LINE], "the bytes of a read", (int)task);
     }
+}
+
+/* 4 is judged right after 2, before 5. */
+static int formats(void)
+{
+    static const struct { uint32_t order, format, blocksize, refusal; } cases[] = {
+        {2, 5, 768, LAPUR_NO_ORDER}, {LAPUR_BIG, 0, 768, LAPUR_BAD_FORMAT}, {LAPUR_BIG, 2, 768, LAPUR_BAD_FORMAT}, {LAPUR_BIG, 5, 768, LAPUR_BAD_FORMAT},
+        {LAPUR_BIG, UINT32_MAX, 768, LAPUR_BAD_FORMAT}, {LAPUR_BIG, LAPUR_FORMAT_4, 768, LAPUR_BAD_BLOCKSIZE}, {LAPUR_BIG, LAPUR_FORMAT_4, 512, 0},
+        {LAPUR_LITTLE, LAPUR_FORMAT_3, 512, 0},
+    };
+    static struct session s;
+    int which, count = sizeof cases / sizeof *cases;
+    for (which = 0; which < count; which++) {
+        const struct lapur_plan plan = {cases[which].order, 0, 0, cases[which].format, cases[which].blocksize, K};
+        hold(lapur_needs(plan, ranks, TASKS, sizes, TASKS, line, LINE).refusal == cases[which].refusal, "a format, asked for", which);
+        hold(lapur_open(plan, ranks, TASKS, sizes, TASKS, line, LINE, s.image, BYTES, s.table, CELLS).refusal == cases[which].refusal,
+            "a format, opened", which);
+    }
+    return count;
 }
 
 /* As many bytes as lapur_chunk_size counts fill the one chunk, to its last byte, and a request of one byte more is refused at any moment. */
@@ -209,7 +246,7 @@ static int chunk_sizes(void)
     static struct session s;
     int which, count = sizeof cases / sizeof *cases;
     for (which = 0; which < count; which++) {
-        const struct lapur_plan plan = {LAPUR_LITTLE, 0, 0, cases[which].blocksize, 1};
+        const struct lapur_plan plan = {LAPUR_LITTLE, 0, 0, (uint32_t)(which % 2 ? LAPUR_FORMAT_4 : LAPUR_FORMAT_3), cases[which].blocksize, 1};
         uint64_t holds = cases[which].holds;
         struct lapur_byte_count counted = lapur_chunk_size(cases[which].size, cases[which].blocksize);
         hold(counted.refusal == 0 && counted.bytes == holds, "what a chunk holds", which);
@@ -249,13 +286,14 @@ int main(void)
     static struct session session;
     static struct load load;
     int spoilt = 0;
-    for (uint32_t order = LAPUR_LITTLE; order <= LAPUR_BIG; order++) {
-        fill(&session, order);
-        spoilt += refused_session(&session);
-        close_it(&session);
-        read_it(&load, &session);
-        spoilt += refused_reads(&load);
-    }
-    printf("%d spoilt records, %d chunk sizes and %d at bounds\n", spoilt, chunk_sizes(), bounds());
+    for (uint32_t order = LAPUR_LITTLE; order <= LAPUR_BIG; order++)
+        for (uint32_t format = LAPUR_FORMAT_3; format <= LAPUR_FORMAT_4; format++) {
+            fill(&session, order, format);
+            spoilt += refused_session(&session);
+            close_it(&session);
+            read_it(&load, &session);
+            spoilt += refused_reads(&load);
+        }
+    printf("%d spoilt records, %d formats at opening, %d chunk sizes and %d at bounds\n", spoilt, formats(), chunk_sizes(), bounds());
     return 0;
 }

@@ -51,7 +51,7 @@ int main(void)
 {
     static uint8_t image[8192];
     static int64_t table[2];
-    const struct lapur_plan plan = {LAPUR_LITTLE, 0, 0, 512, 1};
+    const struct lapur_plan plan = {LAPUR_LITTLE, 0, 0, LAPUR_FORMAT_3, 512, 1};
     const uint64_t ranks[1] = {0}, sizes[1] = {10};
     const uint8_t none[1] = {0};
     raw_needs(fresh(), plan, ranks, 1, sizes, 1, none, 0);

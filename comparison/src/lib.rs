@@ -5,19 +5,19 @@ use lapurmihi::raw::{Loaded, LoadedNumbers, Session, SessionNumbers};
 /// The reference's record of a session as the library has it.
 pub fn session_of(session: &reference::Session) -> Session {
     let reference::Session { head, k: planned } = session;
-    let reference::Head { order, version, patch, blocksize, n, closed, .. } = *head;
+    let reference::Head { order, version, patch, format, blocksize, n, closed, .. } = *head;
     let reference::Head { ranks, sizes, counts, .. } = *head;
     let planned = *planned;
-    let numbers = SessionNumbers { order, version, patch, blocksize, n, planned, closed };
+    let numbers = SessionNumbers { order, version, patch, format, blocksize, n, planned, closed };
     Session { numbers, ranks, sizes, counts }
 }
 
 /// The reference's record of a load as the library has it.
 pub fn loaded_of(loaded: &reference::Loaded) -> Loaded {
     let reference::Loaded { head, maxchunks } = loaded;
-    let reference::Head { order, version, patch, blocksize, n, closed, .. } = *head;
+    let reference::Head { order, version, patch, format, blocksize, n, closed, .. } = *head;
     let reference::Head { ranks, sizes, counts, .. } = *head;
     let maxchunks = *maxchunks;
-    let numbers = LoadedNumbers { order, version, patch, blocksize, n, maxchunks, closed };
+    let numbers = LoadedNumbers { order, version, patch, format, blocksize, n, maxchunks, closed };
     Loaded { numbers, ranks, sizes, counts }
 }

@@ -8,6 +8,7 @@ pub struct Plan {
     pub order: Order,
     pub version: i32,
     pub patch: i32,
+    pub format: u32,
     pub blocksize: u32,
     pub ranks: Vec<u64>,
     pub sizes: Vec<u64>,
@@ -17,13 +18,13 @@ pub struct Plan {
 }
 
 impl Plan {
-    /// A plan with blocksize 512, ranks from 0 on, K = 32 for a few tasks and 2 for many.
+    /// A plan in version 3 with blocksize 512, ranks from 0 on, K = 32 for a few tasks and 2 for many.
     pub fn new(order: Order, sizes: &[u64]) -> Plan {
         let k = if sizes.len() < 4 { 32 } else { 2 };
         let (ranks, sizes) = ((0..sizes.len() as u64).collect(), sizes.to_vec());
-        let (version, patch, blocksize) = (1, 7, 512);
+        let (version, patch, format, blocksize) = (1, 7, 3, 512);
         let prefix = b"data/run.sion".to_vec();
-        Plan { order, version, patch, blocksize, ranks, sizes, prefix, k, background: 0 }
+        Plan { order, version, patch, format, blocksize, ranks, sizes, prefix, k, background: 0 }
     }
 
     /// What a chunk of a task, counted from 0, holds.
@@ -43,14 +44,16 @@ impl Plan {
     /// The closed container that has these chunks, each begun for its own bytes, whatever was left of the one before; there is room for all.
     pub fn of_chunks(&self, chunks: &[(u64, Vec<u8>)]) -> Container {
         let (layout, n) = (Layout::new(self.blocksize, &self.sizes), self.sizes.len());
+        let mut begun = vec![0; n];
         self.filled(|session, image, table| {
             for (task, bytes) in chunks {
                 let task = *task as usize - 1;
-                let chunk = session.head.counts[task];
+                let chunk = begun[task];
                 let start = layout.chunk(task, chunk) as usize;
                 image[start..start + bytes.len()].copy_from_slice(bytes);
                 table[chunk as usize * n + task] = bytes.len() as i64;
-                session.head.counts[task] += 1;
+                begun[task] += 1;
+                session.head.counts[task] = begun[task];
             }
         })
     }
@@ -62,10 +65,10 @@ impl Plan {
         let (mut image, mut table) =
             (vec![self.background; need as usize], vec![0; n * k as usize]);
         let number = self.order.number();
-        let (version, patch, blocksize) = (self.version, self.patch, self.blocksize);
-        let (ranks, sizes, prefix) = (&self.ranks, &self.sizes, &self.prefix);
+        let Plan { version, patch, format, blocksize, ranks, sizes, prefix, .. } = self;
         let opened = open(
-            number, version, patch, blocksize, ranks, sizes, prefix, k, &mut image, &mut table,
+            number, *version, *patch, *format, *blocksize, ranks, sizes, prefix, k, &mut image,
+            &mut table,
         );
         let mut session = opened.expect("plans are sound");
         fill(&mut session, &mut image, &mut table);

@@ -4,8 +4,8 @@ use crate::demand;
 
 /// The four bytes every container starts with.
 pub const MARK: [u8; 4] = *b"sion";
-/// The one fileformat_version there is.
-pub const FORMAT: i32 = 3;
+/// The fileformat_version in which a task that wrote nothing has chunk 1 in use all the same.
+pub const IDLE_FORMAT: u32 = 4;
 
 pub(crate) const MAX_TASKS: usize = 64;
 pub(crate) const MAX_CHUNKS: u32 = 32;
@@ -34,6 +34,11 @@ pub(crate) fn start_at(n: usize) -> usize {
 /// Where META1 ends: 1088 + 16n.
 pub fn meta1_end(n: u64) -> u64 {
     n.saturating_mul(16).saturating_add(1088)
+}
+
+/// fileformat_version is 3 or 4.
+pub(crate) fn format_ok(format: u32) -> bool {
+    format == 3 || format == IDLE_FORMAT
 }
 
 pub(crate) fn blocksize_ok(blocksize: u32) -> bool {

@@ -16,7 +16,7 @@ mod tests;
 pub use bytes::Order;
 pub use container::{Container, Field};
 pub use generator::Rng;
-pub use layout::{capacity, chunk_size, meta1_end, Layout, FORMAT, MARK};
+pub use layout::{capacity, chunk_size, meta1_end, Layout, IDLE_FORMAT, MARK};
 pub use load::load;
 pub use read::{chunk, length, prefix, read, total};
 pub use record::{Head, Loaded, Session};

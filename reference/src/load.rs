@@ -2,9 +2,9 @@
 
 use crate::demand;
 use crate::layout::{
-    blocksize_ok, maxchunks_at, meta1_end, ranks_ok, sizes_at, sizes_ok, start_at,
+    blocksize_ok, format_ok, maxchunks_at, meta1_end, ranks_ok, sizes_at, sizes_ok, start_at,
 };
-use crate::layout::{FORMAT, MARK, MAX_CHUNKS, MAX_TASKS, RANKS_AT};
+use crate::layout::{MARK, MAX_CHUNKS, MAX_TASKS, RANKS_AT};
 use crate::{Head, Loaded, Order};
 
 /// Loads a container; tests in the order 1, 2, 3, 4, 5, 6, 7, 3, 8, 9, 10, 11, 12, 18, 13.
@@ -20,7 +20,7 @@ pub fn load(image: &[u8], table: &mut [i64]) -> Result<Loaded, u32> {
     for (count, value) in head.counts.iter_mut().zip(order.longs(counts)) {
         *count = u64::try_from(value).map_err(|_| 13u32)?;
     }
-    demand(head.greatest() == u64::from(maxchunks), 13)?;
+    demand(head.greatest() == u64::from(maxchunks) && head.idle_ok(), 13)?;
     let mut rows = values.chunks_exact(8 * n).zip(1..);
     demand(rows.all(|(row, chunk)| head.row_ok(chunk, order.longs(row))), 13)?;
 
@@ -41,7 +41,8 @@ fn byte_order(image: &[u8]) -> Result<Order, u32> {
 /// Tests 3 (1076), 4, 5, 6, 7 and 3 (full).
 fn scalars(image: &[u8], order: Order) -> Result<Head, u32> {
     demand(image.len() >= RANKS_AT, 3)?;
-    demand(order.int(image, 16) == FORMAT, 4)?;
+    let format = u32::try_from(order.int(image, 16)).map_err(|_| 4u32)?;
+    demand(format_ok(format), 4)?;
     let blocksize = u32::try_from(order.int(image, 20)).map_err(|_| 5u32)?;
     demand(blocksize_ok(blocksize), 5)?;
     let n = u32::try_from(order.int(image, 24)).map_err(|_| 6u32)?;
@@ -51,7 +52,7 @@ fn scalars(image: &[u8], order: Order) -> Result<Head, u32> {
 
     let (version, patch) = (order.int(image, 8), order.int(image, 12));
     let order = order.number();
-    Ok(Head { order, version, patch, blocksize, n, closed: 0, ..Head::refused() })
+    Ok(Head { order, version, patch, format, blocksize, n, closed: 0, ..Head::refused() })
 }
 
 /// Tests 8 and 9; a negative number turns into one far over either bound.

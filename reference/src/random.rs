@@ -76,6 +76,7 @@ fn plan(rng: &mut Rng) -> Plan {
         plan.blocksize = 512 << rng.below(4);
     }
     plan.version = rng.number() as i32 >> rng.below(32);
+    plan.format = rng.pick(&[3, 4]);
     plan.patch = rng.number() as i32 >> rng.below(32);
     plan.ranks = ranks(rng, n);
     let length = rng.pick(&[0, 1, 20, 1023, 1024]);

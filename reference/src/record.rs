@@ -1,7 +1,8 @@
 //! Holds the two kinds of record and the tests that every later call makes of them: 17, 18, 19 and 14.
 
 use crate::demand;
-use crate::layout::{blocksize_ok, capacity, ranks_ok, sizes_ok, Layout, MAX_CHUNKS, MAX_TASKS};
+use crate::layout::{blocksize_ok, capacity, format_ok, ranks_ok, sizes_ok, Layout};
+use crate::layout::{IDLE_FORMAT, MAX_CHUNKS, MAX_TASKS};
 use crate::Order;
 
 /// What both kinds of record hold; entries past n are not judged.
@@ -11,6 +12,7 @@ pub struct Head {
     pub order: u32,
     pub version: i32,
     pub patch: i32,
+    pub format: u32,
     pub blocksize: u32,
     pub n: u32,
     pub ranks: [u64; 64],
@@ -41,6 +43,7 @@ impl Head {
             order: 0,
             version: 0,
             patch: 0,
+            format: 0,
             blocksize: 0,
             n: 0,
             ranks: [0; MAX_TASKS],
@@ -69,6 +72,11 @@ impl Head {
         self.counts[..self.tasks()].iter().copied().max().unwrap_or(0)
     }
 
+    /// In version 4 every count is at least 1.
+    pub(crate) fn idle_ok(&self) -> bool {
+        self.format != IDLE_FORMAT || !self.counts[..self.tasks()].contains(&0)
+    }
+
     /// META2's rule for the row of one chunk, counted from 1.
     pub(crate) fn row_ok(&self, chunk: u64, row: impl Iterator<Item = i64>) -> bool {
         row.enumerate().all(|(task, value)| {
@@ -91,10 +99,12 @@ impl Head {
         let tasks = self.tasks();
         self.closed == 0
             && Order::from_number(self.order).is_some()
+            && format_ok(self.format)
             && blocksize_ok(self.blocksize)
             && (1..=MAX_TASKS as u32).contains(&self.n)
             && ranks_ok(&self.ranks[..tasks])
             && sizes_ok(&self.sizes[..tasks])
+            && self.idle_ok()
     }
 
     /// Tests 18 and 19 of a sound record with `blocks` chunks to a task.

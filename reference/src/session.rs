@@ -1,16 +1,19 @@
 //! Holds a session: opening, writing and closing.
 
 use crate::demand;
-use crate::layout::{blocksize_ok, maxchunks_at, ranks_ok, sizes_at, sizes_ok, start_at};
-use crate::layout::{FORMAT, MARK, MAX_CHUNKS, MAX_PREFIX, MAX_TASKS, RANKS_AT};
+use crate::layout::{
+    blocksize_ok, format_ok, maxchunks_at, ranks_ok, sizes_at, sizes_ok, start_at,
+};
+use crate::layout::{IDLE_FORMAT, MARK, MAX_CHUNKS, MAX_PREFIX, MAX_TASKS, RANKS_AT};
 use crate::{Head, Order, Session};
 
-/// Opens a session; tests in the order 2, 5, 6, 21, 8, 9, 20, 18.
+/// Opens a session; tests in the order 2, 4, 5, 6, 21, 8, 9, 20, 18.
 #[allow(clippy::too_many_arguments)]
 pub fn open(
     order: u32,
     version: i32,
     patch: i32,
+    format: u32,
     blocksize: u32,
     ranks: &[u64],
     sizes: &[u64],
@@ -21,6 +24,7 @@ pub fn open(
 ) -> Result<Session, u32> {
     let bytes = Order::from_number(order).ok_or(2u32)?;
     let n = sizes.len();
+    demand(format_ok(format), 4)?;
     demand(blocksize_ok(blocksize), 5)?;
     demand(ranks.len() == n && (1..=MAX_TASKS).contains(&n), 6)?;
     demand(prefix.len() <= MAX_PREFIX, 21)?;
@@ -29,13 +33,18 @@ pub fn open(
     demand((1..=MAX_CHUNKS).contains(&k), 20)?;
 
     let n = n as u32;
-    let mut head = Head { order, version, patch, blocksize, n, closed: 0, ..Head::refused() };
+    let mut head =
+        Head { order, version, patch, format, blocksize, n, closed: 0, ..Head::refused() };
     head.ranks[..ranks.len()].copy_from_slice(ranks);
     head.sizes[..sizes.len()].copy_from_slice(sizes);
     demand(image.len() as u64 >= head.layout().end(u64::from(k)), 18)?;
     let cells = table.get_mut(..sizes.len() * k as usize).ok_or(18u32)?;
 
     cells.fill(-1);
+    if format == IDLE_FORMAT {
+        head.counts[..sizes.len()].fill(1);
+        cells[..sizes.len()].fill(0);
+    }
     put_meta1(&head, bytes, prefix, image);
     Ok(Session { head, k })
 }
@@ -45,7 +54,8 @@ fn put_meta1(head: &Head, order: Order, prefix: &[u8], image: &mut [u8]) {
     let n = head.tasks();
     image[..head.layout().d as usize].fill(0);
     image[..4].copy_from_slice(&MARK);
-    let ints = [1, head.version, head.patch, FORMAT, head.blocksize as i32, head.n as i32, 1, 0];
+    let (format, blocksize) = (head.format as i32, head.blocksize as i32);
+    let ints = [1, head.version, head.patch, format, blocksize, n as i32, 1, 0];
     for (i, value) in ints.into_iter().enumerate() {
         order.put_int(image, 4 + 4 * i, value);
     }

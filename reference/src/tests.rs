@@ -12,10 +12,15 @@ fn session(order: u32, sizes: &[u64], k: u32) -> Opened {
 }
 
 fn session_of(blocksize: u32, order: u32, sizes: &[u64], k: u32) -> Opened {
+    session_in(3, blocksize, order, sizes, k)
+}
+
+fn session_in(format: u32, blocksize: u32, order: u32, sizes: &[u64], k: u32) -> Opened {
     let ranks: Vec<u64> = (0..sizes.len() as u64).collect();
     let mut image = vec![0; Layout::new(blocksize, sizes).end(u64::from(k)) as usize];
     let mut table = vec![7; sizes.len() * k as usize];
-    let session = open(order, 1, 7, blocksize, &ranks, sizes, b"p", k, &mut image, &mut table);
+    let session =
+        open(order, 1, 7, format, blocksize, &ranks, sizes, b"p", k, &mut image, &mut table);
     (session.expect("a sound plan"), image, table)
 }
 
@@ -181,7 +186,7 @@ fn openings() {
         |order, blocksize, ranks: &[u64], sizes: &[u64], prefix: usize, k, image: usize| {
             let (mut image, mut table) = (vec![0; image], vec![0; 64]);
             let prefix = vec![b'x'; prefix];
-            open(order, 0, 0, blocksize, ranks, sizes, &prefix, k, &mut image, &mut table).err()
+            open(order, 0, 0, 3, blocksize, ranks, sizes, &prefix, k, &mut image, &mut table).err()
         };
     let ranks: Vec<u64> = (0..65).collect();
     assert_eq!(attempt(2, 0, &[], &[], 0, 0, 0), Some(2));
@@ -198,6 +203,73 @@ fn openings() {
     assert_eq!(attempt(0, 512, &[0, 1], &SIZES, 1024, 3, 6207), Some(18));
     assert_eq!(attempt(0, 512, &[0, 1], &SIZES, 1024, 3, 6208), None);
     assert_eq!(attempt(1, 512, &ranks[..64], &[1; 64], 0, 1, 40_000), None);
+}
+
+/// P12 in version 4: both tasks have chunk 1 in use before anything is written, and the second, which writes nothing, has it empty in the end.
+#[test]
+fn p12_in_version_4() {
+    for order in [0, 1] {
+        let (mut session, mut image, mut table) = session_in(4, 512, order, &SIZES, 3);
+        assert_eq!(
+            (&session.head.counts[..3], &table[..]),
+            (&[1, 1, 0][..], &[0, 0, -1, -1, -1, -1][..])
+        );
+        for length in [300, 200, 1] {
+            assert_eq!(write(&mut session, &mut image, &mut table, 1, &vec![7; length]), Ok(()));
+        }
+        assert_eq!(close(&mut session, &mut image, &table), Ok(3104));
+        let bytes = Order::from_number(order).expect("an order");
+        assert_eq!(
+            (bytes.int(&image, 16), bytes.int(&image, 1108), bytes.long(&image, 1112)),
+            (4, 1, 3072)
+        );
+        let meta2: Vec<i64> = bytes.longs(&image[3072..3104]).collect();
+        assert_eq!(meta2, [1, 1, 501, 0]);
+        let loaded = load(&image[..3104], &mut table).expect("a sound container");
+        assert_eq!((loaded.head.format, loaded.maxchunks), (4, 1));
+        assert_eq!([1, 2].map(|task| total(&loaded, &image, &table, task)), [Ok(501), Ok(0)]);
+        assert_eq!(chunk(&loaded, &image, &table, 2, 1), Ok(&[][..]));
+        bytes.put_long(&mut image, 3080, 0);
+        bytes.put_long(&mut image, 3096, -1);
+        assert_eq!(load(&image[..3104], &mut table), Err(13));
+        bytes.put_int(&mut image, 16, 3);
+        assert_eq!(load(&image[..3104], &mut table).map(|loaded| loaded.head.format), Ok(3));
+    }
+}
+
+#[test]
+fn formats() {
+    let attempt = |order, format, blocksize| {
+        let (mut image, mut table) = (vec![0; 2064], vec![9]);
+        open(order, 1, 7, format, blocksize, &[0], &[1], b"", 1, &mut image, &mut table).err()
+    };
+    for format in [0, 2, 5, 259, u32::MAX] {
+        assert_eq!((attempt(2, format, 768), attempt(0, format, 768)), (Some(2), Some(4)));
+    }
+    for format in [3, 4] {
+        assert_eq!((attempt(0, format, 768), attempt(0, format, 512)), (Some(5), None));
+    }
+    for format in [3, 4] {
+        let (mut session, mut image, mut table) = session_in(format, 512, 0, &[1], 1);
+        let length = close(&mut session, &mut image, &table).expect("an open session") as usize;
+        let maxchunks = u64::from(format - 3);
+        assert_eq!(length, [1544, 2064][maxchunks as usize]);
+        let loaded = load(&image[..length], &mut table).expect("a sound container");
+        assert_eq!((loaded.head.format, loaded.maxchunks), (format, maxchunks as u32));
+    }
+}
+
+/// One chunk of 512 bytes: what fits and what does not is the same in both versions.
+#[test]
+fn writes_do_not_depend_on_the_format() {
+    for lengths in [[513, 512, 1, 0], [1, 511, 1, 512], [0, 1, 512, 511], [511, 2, 1, 1]] {
+        let [three, four] = [3, 4].map(|format| {
+            let mut opened = session_in(format, 512, 0, &[500], 1);
+            let answers = lengths.map(|length| write_ones(&mut opened, length).err().unwrap_or(0));
+            (answers, opened.1[1536..].to_vec(), opened.2)
+        });
+        assert_eq!(three, four);
+    }
 }
 
 #[test]
@@ -217,6 +289,9 @@ fn hostile_records() {
     assert_eq!(answer(|s| s.head.ranks[1] = 0, 1), Err(17));
     assert_eq!(answer(|s| s.head.counts[1] = u64::MAX, 1), Err(17));
     assert_eq!(answer(|s| s.head.order = 2, 1), Err(17));
+    assert_eq!(answer(|s| s.head.format = 0, 1), Err(17));
+    assert_eq!(answer(|s| s.head.format = 5, 1), Err(17));
+    assert_eq!(answer(|s| s.head.format = 4, 1), Err(17));
     assert_eq!(answer(|s| s.k = u32::MAX, 1), Err(17));
     assert_eq!(answer(|s| s.k = 4, 1), Err(18));
     assert_eq!(answer(|s| s.head.sizes[0] = 1_073_741_824, 1), Err(18));

@@ -12,10 +12,10 @@ const I64: [i64; 2] = [i64::MIN, i64::MAX];
 /// The names, without what tells the byte order, of those that are stored beside the library; all others are made anew where they are
 /// compared.
 #[rustfmt::skip]
-const STORED: [&str; 34] = [
+const STORED: [&str; 39] = [
     // P12, what was written for it when a chunk held its requested size, and one for each number.
     "p12", "ok-base-p12",
-    "r01-mark-byte-0", "r02-order-0", "r03-cut-1103", "r04-format-4", "r05-blocksize-256", "r06-ntasks-0", "r07-nfiles-2",
+    "r01-mark-byte-0", "r02-order-0", "r03-cut-1103", "r04-format-5", "r05-blocksize-256", "r06-ntasks-0", "r07-nfiles-2",
     "r08-rank-of-two-0", "r09-size-0", "r10-not-closed", "r11-maxchunks-33", "r12-start-1537", "r13-value-513",
     // The bounds of the rules, and one past them.
     "ok-tasks-1", "ok-tasks-64", "ok-written-64", "r06-ntasks-65",
@@ -24,6 +24,8 @@ const STORED: [&str; 34] = [
     "ok-size-idle-1073741824", "r09-size-1073741825",
     "ok-rank-2147483647", "r08-rank-2147483648",
     "ok-full-two", "ok-prefix-full",
+    // Version 4: P12, a task that wrote nothing, and counts and a maxchunks of 0; and a count of 1 with 0 bytes in version 3.
+    "ok-idle-p12", "ok-idle-tasks-1", "r13-idle-count-0", "r13-idle-maxchunks-0", "ok-idle-as-3",
     // The bounds of the input's length.
     "r01-cut-0", "r02-cut-7", "r12-cut-1543", "ok-tail-to-65536",
 ];
@@ -36,6 +38,7 @@ pub fn all() -> Vec<(String, Vec<u8>)> {
         let bases = Bases::new(order);
         accepted::plans(&mut list, order);
         accepted::chunks(&mut list, order);
+        accepted::idle(&mut list, order);
         accepted::values(&mut list, &bases);
         accepted::changes(&mut list, &bases);
         refused::all(&mut list, &bases);
@@ -134,7 +137,9 @@ fn names_tell_the_answers() {
 #[test]
 fn lines_and_lengths() {
     let p12 = [("p12", 3104, "0 2 1 501 0"), ("ok-base-p12", 4656, "0 2 2 501 0")];
-    for (wanted, length, line) in p12.into_iter().chain([("ok-full-two", 3104, "0 2 1 512 1024")]) {
+    let full = [("ok-full-two", 3104, "0 2 1 512 1024")];
+    let idle = [("ok-idle-p12", 3104, "0 2 1 501 0"), ("ok-idle-tasks-1", 2064, "0 1 1 0")];
+    for (wanted, length, line) in p12.into_iter().chain(full).chain(idle) {
         let found = stored().into_iter().filter(|(name, _)| plain(name) == wanted);
         let told: Vec<(usize, String)> =
             found.map(|(_, bytes)| (bytes.len(), crate::report::line(&bytes))).collect();

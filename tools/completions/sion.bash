@@ -6,11 +6,13 @@ _sion() {
         words="check show create extract cat explain --version --help"
     elif [ "${COMP_WORDS[COMP_CWORD - 1]}" = --order ]; then
         words="little big"
+    elif [ "${COMP_WORDS[COMP_CWORD - 1]}" = --format ]; then
+        words="3 4"
     else
         case $command:$word in
             check:-*) words="--quiet --json --help" ;;
             show:-*) words="--chunks --json --help" ;;
-            create:-*) words="--blocksize --order --prefix --blocks --force --help" ;;
+            create:-*) words="--blocksize --order --format --prefix --blocks --force --help" ;;
             extract:-*) words="--force --help" ;;
             *:-*) words="--help" ;;
             explain:*) words=$(sion explain 2>/dev/null | grep -o '\<[A-Z][A-Z0-9]*_[A-Z0-9_]*\>') ;;

@@ -8,7 +8,7 @@ use crate::progress::Progress;
 use crate::sources::{inputs, Input};
 use crate::system::{free_memory, Zeros};
 use crate::text::{reason, shown};
-use lapurmihi::{ByteOrder, Refusal};
+use lapurmihi::{ByteOrder, Format, Refusal};
 use std::os::unix::ffi::OsStrExt;
 use std::path::Path;
 
@@ -19,6 +19,7 @@ pub const COMMAND: Command = Command {
     options: &[
         Known::Valued("--blocksize"),
         Known::Valued("--order"),
+        Known::Valued("--format"),
         Known::Valued("--prefix"),
         Known::Valued("--blocks"),
         Known::Flag("--force"),
@@ -36,6 +37,7 @@ at most 64; '-' names neither a file nor the container. What they hold has to fi
 
     --blocksize SIZE      bytes of a file-system block: a power of two from 512 to 4M (4k)
     --order little|big    byte order of the container's numbers (little)
+    --format 3|4          fileformat_version (3); in 4 a task of an empty file has one chunk of 0 bytes, in 3 none
     --prefix TEXT         filename prefix that the container names (none)
     --blocks K            blocks that are planned, 1 to 32 (as few as needed); a file is spread over at most so many
     --force               replace CONTAINER if it is a regular file and none of the files; its mode stays
@@ -80,9 +82,16 @@ fn asked(args: &Args) -> Result<Asked<'_>, String> {
         Some(order) if order == "big" => ByteOrder::Big,
         Some(other) => return Err(format!("--order is little or big, not '{}'", shown(other))),
     };
+    let format = match args.value("--format") {
+        None => Format::V3,
+        Some(format) if format == "3" => Format::V3,
+        Some(format) if format == "4" => Format::V4,
+        Some(other) => return Err(format!("--format is 3 or 4, not '{}'", shown(other))),
+    };
     Ok(Asked {
         blocksize: args.size("--blocksize")?.unwrap_or(4096),
         order,
+        format,
         prefix: args.value("--prefix").map_or(b"", |prefix| prefix.as_bytes()),
         blocks: args.number("--blocks")?,
     })
@@ -149,13 +158,18 @@ mod tests {
             let words = line.split_whitespace().map(OsString::from);
             Args::parse(words, COMMAND.options).unwrap()
         };
-        let default =
-            Asked { blocksize: 4096, order: ByteOrder::Little, prefix: b"", blocks: None };
+        let (order, format) = (ByteOrder::Little, Format::V3);
+        let default = Asked { blocksize: 4096, order, format, prefix: b"", blocks: None };
         assert_eq!(asked(&line("c f")), Ok(default));
-        let all = Asked { blocksize: 512, order: ByteOrder::Big, prefix: b"run", blocks: Some(3) };
-        let args = line("--blocksize 512 --order big --prefix run --blocks 3");
+        let (order, format) = (ByteOrder::Big, Format::V4);
+        let all = Asked { blocksize: 512, order, format, prefix: b"run", blocks: Some(3) };
+        let args = line("--blocksize 512 --order big --format 4 --prefix run --blocks 3");
         assert_eq!(asked(&args), Ok(all));
         assert!(asked(&line("--order up")).is_err());
+        for format in ["2", "5", "04", "four"] {
+            let args = line(&format!("--format={format}"));
+            assert_eq!(asked(&args), Err(format!("--format is 3 or 4, not '{format}'")));
+        }
     }
 
     /// The chunks of a file that was put into a container.
@@ -163,7 +177,8 @@ mod tests {
         let (file, made) = (folder.join("file"), folder.join("made.sion"));
         fs::write(&file, bytes).unwrap();
         let inputs = inputs(&[file.into()], |what| Failure::Usage("sion create", what)).unwrap();
-        let asked = Asked { blocksize, order: ByteOrder::Little, prefix: b"", blocks };
+        let (order, format) = (ByteOrder::Little, Format::V3);
+        let asked = Asked { blocksize, order, format, prefix: b"", blocks };
         create(&asked, &inputs, &Place { path: &made, force: true, sources: &[] }).unwrap();
         let container = Container::open(&made).unwrap();
         let task = container.task(1).unwrap();

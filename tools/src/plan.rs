@@ -1,13 +1,14 @@
 //! Holds the plan of a container that is created, and why the library refuses one, as who asked for it has to know.
 
 use crate::sources::Input;
-use lapurmihi::{ByteOrder, Plan, Refusal, BLOCKS, TASKS};
+use lapurmihi::{ByteOrder, Format, Plan, Refusal, BLOCKS, TASKS};
 
 /// What the options ask for.
 #[derive(Debug, PartialEq)]
 pub struct Asked<'a> {
     pub blocksize: u32,
     pub order: ByteOrder,
+    pub format: Format,
     pub prefix: &'a [u8],
     /// The blocks; if none are said, the fewest for which no requested size is too large.
     pub blocks: Option<u32>,
@@ -30,9 +31,9 @@ pub fn planned(asked: &Asked, inputs: &[Input]) -> Result<Plan, String> {
 
 impl Asked<'_> {
     fn spread(&self, blocks: u32, inputs: &[Input]) -> Plan {
-        let plan = Plan::new(self.blocksize).byte_order(self.order).prefix(self.prefix);
+        let plan = Plan::new(self.blocksize).byte_order(self.order).format(self.format);
         let tasks = inputs.iter().map(|input| (input.rank, share(input, blocks)));
-        plan.blocks(blocks).tasks(tasks)
+        plan.prefix(self.prefix).blocks(blocks).tasks(tasks)
     }
 
     /// The file, the rank or the option at fault. Which one it is among many, the library says of each alone.
@@ -90,8 +91,13 @@ mod tests {
     use super::*;
 
     const GIB: u64 = 1 << 30;
-    const ASKED: Asked =
-        Asked { blocksize: 512, order: ByteOrder::Little, prefix: b"", blocks: None };
+    const ASKED: Asked = Asked {
+        blocksize: 512,
+        order: ByteOrder::Little,
+        format: Format::V3,
+        prefix: b"",
+        blocks: None,
+    };
 
     fn files(ranks_and_lengths: &[(u64, u64)]) -> Vec<Input> {
         let file = |&(rank, length)| Input::of(&format!("f{rank}.{length}"), rank, length);
@@ -137,8 +143,9 @@ mod tests {
 
     #[test]
     fn options_make_the_plan() {
-        let asked = Asked { blocksize: 1024, order: ByteOrder::Big, prefix: b"run", ..ASKED };
-        let wanted = Plan::new(1024).byte_order(ByteOrder::Big).prefix("run").task(9, 4);
+        let (order, format, prefix) = (ByteOrder::Big, Format::V4, b"run");
+        let asked = Asked { blocksize: 1024, order, format, prefix, ..ASKED };
+        let wanted = Plan::new(1024).byte_order(order).format(format).prefix("run").task(9, 4);
         assert_eq!(planned(&asked, &files(&[(9, 4)])), Ok(wanted));
     }
 

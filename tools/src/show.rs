@@ -70,6 +70,7 @@ fn about(container: &Container) -> String {
     let lines = [
         ("byte order", order(container).to_string()),
         ("version", format!("{}, patch level {}", container.version(), container.patch())),
+        ("format", (container.format() as u32).to_string()),
         ("blocksize", container.blocksize().to_string()),
         ("tasks", container.tasks().len().to_string()),
         ("most chunks", container.maxchunks().to_string()),
@@ -93,6 +94,7 @@ fn whole(word: &OsStr, container: &Container, chunks: bool) -> String {
         ("order", json(order(container))),
         ("version", container.version().to_string()),
         ("patch", container.patch().to_string()),
+        ("format", (container.format() as u32).to_string()),
         ("blocksize", container.blocksize().to_string()),
         ("maxchunks", container.maxchunks().to_string()),
         ("prefix", json(OsStr::from_bytes(container.prefix()))),
@@ -187,6 +189,7 @@ mod tests {
 
     const SAMPLE: &[u8] = include_bytes!("../../examples/two-tasks.sion");
     const BEFORE: &[u8] = include_bytes!("../../crates/vectors/data/ok-base-p12.sion");
+    const IDLE: &[u8] = include_bytes!("../../crates/vectors/data/ok-idle-p12.sion");
 
     #[test]
     fn the_sample() {
@@ -194,6 +197,7 @@ mod tests {
         let wanted = "\
 byte order   little
 version      1, patch level 7
+format       3
 blocksize    512
 tasks        2
 most chunks  1
@@ -209,6 +213,26 @@ task  rank  requested  chunk size  chunks  bytes    fill
  sum                                    1    501  97.8 %
 ";
         assert_eq!(tasks(&container), wanted);
+    }
+
+    /// In format 4 a task that wrote nothing has a chunk, with no bytes in it.
+    #[test]
+    fn idle_tasks_of_format_4() {
+        let container = Container::from_bytes(IDLE.to_vec()).unwrap();
+        assert!(about(&container).contains("\nformat       4\n"));
+        let wanted = "\
+task  rank  requested  chunk size  chunks  bytes    fill
+   1     0        500         512       1    501  97.8 %
+   2     1        600        1024       1      0   0.0 %
+ sum                                    2    501  32.6 %
+";
+        assert_eq!(tasks(&container), wanted);
+        let wanted = "\
+task  rank  chunk  offset  bytes
+   1     0      1    1536    501
+   2     1      1    2048      0
+";
+        assert_eq!(parts(&container), wanted);
     }
 
     /// The chunks of a container that was written before version 0.2.0, when a chunk held its requested size.

@@ -2,7 +2,7 @@
 
 use crate::memory::{Image, Table};
 use crate::refusal::accepted;
-use crate::{raw, ByteOrder, OpenError, Refusal, Stream, CELLS};
+use crate::{raw, ByteOrder, Format, OpenError, Refusal, Stream, CELLS};
 use std::fmt;
 use std::fs::File;
 use std::ops::Range;
@@ -117,6 +117,14 @@ impl<'a> Container<'a> {
         self.record.numbers.patch
     }
 
+    /// The container's fileformat_version.
+    pub fn format(&self) -> Format {
+        match self.record.numbers.format {
+            3 => Format::V3,
+            _ => Format::V4,
+        }
+    }
+
     /// The bytes of a file-system block.
     pub fn blocksize(&self) -> u32 {
         self.record.numbers.blocksize
@@ -164,6 +172,7 @@ impl fmt::Debug for Container<'_> {
             .field("byte_order", &self.byte_order())
             .field("version", &self.version())
             .field("patch", &self.patch())
+            .field("format", &self.format())
             .field("blocksize", &self.blocksize())
             .field("maxchunks", &self.maxchunks())
             .field("length", &self.length())

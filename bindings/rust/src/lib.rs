@@ -56,6 +56,6 @@ pub use container::{Container, Task};
 pub use open_error::OpenError;
 pub use raw::{BLOCKS, CELLS, TASKS};
 pub use refusal::Refusal;
-pub use session::{ByteOrder, Needs, Plan, Session};
+pub use session::{ByteOrder, Format, Needs, Plan, Session};
 pub use stream::Stream;
 pub use writer::Writer;

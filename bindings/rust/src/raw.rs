@@ -24,6 +24,8 @@ pub struct SessionNumbers {
     pub version: i32,
     /// The patch level, any number.
     pub patch: i32,
+    /// fileformat_version, 3 or 4.
+    pub format: u32,
     /// The bytes of a file-system block.
     pub blocksize: u32,
     /// The number of tasks.
@@ -44,7 +46,7 @@ pub struct Session {
     pub ranks: [u64; TASKS],
     /// The requested size of each task; [`chunk_size`] says what a chunk of it holds.
     pub sizes: [u64; TASKS],
-    /// The chunks that each task has begun.
+    /// The chunks that each task has begun; in format 4 at least 1.
     pub counts: [u64; TASKS],
 }
 
@@ -58,6 +60,8 @@ pub struct LoadedNumbers {
     pub version: i32,
     /// The patch level, any number.
     pub patch: i32,
+    /// fileformat_version, 3 or 4.
+    pub format: u32,
     /// The bytes of a file-system block.
     pub blocksize: u32,
     /// The number of tasks.
@@ -78,7 +82,7 @@ pub struct Loaded {
     pub ranks: [u64; TASKS],
     /// The requested size of each task; [`chunk_size`] says what a chunk of it holds.
     pub sizes: [u64; TASKS],
-    /// The chunks that each task used.
+    /// The chunks that each task used; in format 4 at least 1.
     pub counts: [u64; TASKS],
 }
 
@@ -92,6 +96,8 @@ pub struct Plan {
     pub version: i32,
     /// The patch level, any number.
     pub patch: i32,
+    /// fileformat_version, 3 or 4.
+    pub format: u32,
     /// The bytes of a file-system block.
     pub blocksize: u32,
     /// The planned blocks.

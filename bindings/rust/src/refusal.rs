@@ -44,7 +44,7 @@ refusals! {
     NoMark = 1 "NO_MARK" "the image is under 4 bytes, or does not begin with sion"
     NoOrder = 2 "NO_ORDER" "the image is under 8 bytes, or the order number is 1 in neither byte order; at opening, the order is neither 0 nor 1"
     ShortMeta1 = 3 "SHORT_META1" "the image is under 1076 bytes; later, under 1088 + 16 n bytes"
-    BadFormat = 4 "BAD_FORMAT" "fileformat_version is not 3"
+    BadFormat = 4 "BAD_FORMAT" "fileformat_version is neither 3 nor 4"
     BadBlocksize = 5 "BAD_BLOCKSIZE" "blocksize is no power of two from 512 to 4,194,304"
     BadTasks = 6 "BAD_TASKS" "ntasks is not from 1 to 64; at opening also, the lists of ranks and sizes are not equally long"
     BadFiles = 7 "BAD_FILES" "nfiles is not 1, or filenumber is not 0"

@@ -15,6 +15,33 @@ pub enum ByteOrder {
     Big = 1,
 }
 
+/// A container's fileformat_version, which says how a task that wrote nothing is stored. Whether a request is taken, and where its bytes go, does
+/// not depend on it.
+///
+/// ```
+/// use lapurmihi::{Container, Format, Plan, Refusal};
+///
+/// let plan = Plan::new(512).format(Format::V4).task(0, 500).task(1, 600);
+/// let needs = plan.needs()?;
+/// let (mut image, mut table) = (vec![0; needs.image], vec![0; needs.cells]);
+/// let mut session = plan.open(&mut image, &mut table)?;
+/// session.write(1, b"a")?;
+/// let bytes = session.close()?.to_vec();
+/// let container = Container::load(&bytes, &mut table)?;
+/// assert_eq!(container.format(), Format::V4);
+/// assert_eq!(container.task(2)?.chunk(1)?, b""); // in Format::V3 task 2 has no chunk
+/// # Ok::<(), Refusal>(())
+/// ```
+#[derive(Clone, Copy, Debug, Default, PartialEq, Eq, Hash)]
+#[repr(u32)]
+pub enum Format {
+    /// A task that wrote nothing has no chunk.
+    #[default]
+    V3 = 3,
+    /// A task that wrote nothing has one chunk, with no bytes in it.
+    V4 = 4,
+}
+
 /// What a session is opened with. Nothing is judged before [`needs`](Plan::needs) or [`open`](Plan::open) asks the library.
 ///
 /// ```
@@ -29,6 +56,7 @@ pub struct Plan {
     order: ByteOrder,
     version: i32,
     patch: i32,
+    format: Format,
     blocksize: u32,
     planned: u32,
     prefix: Vec<u8>,
@@ -46,12 +74,13 @@ pub struct Needs {
 }
 
 impl Plan {
-    /// A plan without tasks: little byte order, version 0 and patch level 0, no prefix, one planned block.
+    /// A plan without tasks: little byte order, version 0 and patch level 0, [`Format::V3`], no prefix, one planned block.
     pub fn new(blocksize: u32) -> Plan {
         Plan {
             order: ByteOrder::Little,
             version: 0,
             patch: 0,
+            format: Format::V3,
             blocksize,
             planned: 1,
             prefix: vec![],
@@ -86,6 +115,11 @@ impl Plan {
     /// Gives the library version and the patch level that the container names.
     pub fn version(self, version: i32, patch: i32) -> Plan {
         Plan { version, patch, ..self }
+    }
+
+    /// Chooses the container's fileformat_version.
+    pub fn format(self, format: Format) -> Plan {
+        Plan { format, ..self }
     }
 
     /// Gives the filename prefix that the container names.
@@ -134,8 +168,9 @@ impl Plan {
 
     /// What of it is neither a list nor the prefix.
     fn numbers(&self) -> raw::Plan {
-        let Plan { order, version, patch, blocksize, planned, .. } = *self;
-        raw::Plan { order: order as u32, version, patch, blocksize, planned }
+        let Plan { order, version, patch, format, blocksize, planned, .. } = *self;
+        let (order, format) = (order as u32, format as u32);
+        raw::Plan { order, version, patch, format, blocksize, planned }
     }
 }
 
@@ -208,7 +243,7 @@ impl<'a> Session<'a> {
         Ok(self.record.sizes[self.index(task)?])
     }
 
-    /// The chunks that a task, counted from 1, has begun.
+    /// The chunks that a task, counted from 1, has begun; in [`Format::V4`] at least 1, before anything is written too.
     pub fn chunks_begun(&self, task: u64) -> Result<u64, Refusal> {
         Ok(self.record.counts[self.index(task)?])
     }

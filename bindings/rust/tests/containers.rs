@@ -223,7 +223,10 @@ fn a_container_shows_itself() {
     let mut table = table();
     let container = Container::load(SAMPLE, &mut table).unwrap();
     let shown = format!("{container:?}");
-    assert!(shown.starts_with("Container { byte_order: Little, version: 1, patch: 7,"), "{shown}");
+    assert!(
+        shown.starts_with("Container { byte_order: Little, version: 1, patch: 7, format: V3,"),
+        "{shown}"
+    );
     let task = "Task { number: 1, rank: 0, requested_size: 500, chunk_size: 512, chunks_used: 1, total: 501 }";
     assert!(shown.contains(task), "{shown}");
 }

@@ -14,6 +14,7 @@ const NO_SESSION: Session = Session {
         order: 0,
         version: 0,
         patch: 0,
+        format: 0,
         blocksize: 0,
         n: 0,
         planned: 0,
@@ -30,6 +31,7 @@ const NOT_LOADED: Loaded = Loaded {
         order: 0,
         version: 0,
         patch: 0,
+        format: 0,
         blocksize: 0,
         n: 0,
         maxchunks: 0,
@@ -43,19 +45,22 @@ const NOT_LOADED: Loaded = Loaded {
 /// What a chunk of each task holds in the session below.
 const HOLDS: usize = 1024;
 
-/// The numbers of a plan with the most blocks.
+/// The numbers of a plan with the most blocks: format 3 in little order, 4 in big.
 fn plan(order: u32) -> Plan {
-    Plan { order, version: -2, patch: 0x1234_5678, blocksize: 1024, planned: BLOCKS as u32 }
+    let (version, patch, planned) = (-2, 0x1234_5678, BLOCKS as u32);
+    Plan { order, version, patch, format: 3 + order, blocksize: 1024, planned }
 }
 
 /// The record of its session just opened: the most tasks, each with a rank and a size of its own.
 fn session(order: u32) -> Session {
-    let Plan { version, patch, blocksize, planned, .. } = plan(order);
+    let Plan { version, patch, format, blocksize, planned, .. } = plan(order);
     let n = TASKS as u32;
-    let numbers = SessionNumbers { order, version, patch, blocksize, n, planned, closed: 0 };
+    let numbers =
+        SessionNumbers { order, version, patch, format, blocksize, n, planned, closed: 0 };
     let ranks = std::array::from_fn(|task| 1_000_000 + task as u64);
     let sizes = std::array::from_fn(|task| 1 + 3 * task as u64);
-    Session { numbers, ranks, sizes, counts: [0; TASKS] }
+    let begun = u64::from(format - 3);
+    Session { numbers, ranks, sizes, counts: [begun; TASKS] }
 }
 
 /// The chunks that each task begins.
@@ -87,8 +92,8 @@ fn with(mut counts: [u64; TASKS], task: usize, count: u64) -> [u64; TASKS] {
 
 #[test]
 fn a_record_is_its_numbers_and_behind_them_its_lists_with_no_gap() {
-    assert_eq!([size_of::<SessionNumbers>(), size_of::<LoadedNumbers>()], [28; 2]);
-    assert_eq!(size_of::<Plan>(), 20);
+    assert_eq!([size_of::<SessionNumbers>(), size_of::<LoadedNumbers>()], [32; 2]);
+    assert_eq!(size_of::<Plan>(), 24);
     let session =
         [offset_of!(Session, ranks), offset_of!(Session, sizes), offset_of!(Session, counts)];
     let loaded = [offset_of!(Loaded, ranks), offset_of!(Loaded, sizes), offset_of!(Loaded, counts)];
@@ -115,9 +120,12 @@ fn records_survive_the_library() {
         assert_eq!(session, Session { numbers, ..before });
 
         let mut table = vec![0; CELLS];
-        let SessionNumbers { version, patch, blocksize, n, planned: maxchunks, .. } = numbers;
-        let numbers = LoadedNumbers { order, version, patch, blocksize, n, maxchunks, closed: 0 };
-        let loaded = Loaded { numbers, ranks, sizes, counts: counts() };
+        let SessionNumbers { version, patch, format, blocksize, n, planned: maxchunks, .. } =
+            numbers;
+        let numbers =
+            LoadedNumbers { order, version, patch, format, blocksize, n, maxchunks, closed: 0 };
+        let used = counts().map(|count| count.max(u64::from(format - 3)));
+        let loaded = Loaded { numbers, ranks, sizes, counts: used };
         assert_eq!(raw::load(&image, &mut table), LoadAnswer { loaded, refusal: 0 });
         for (task, count) in counts().into_iter().enumerate() {
             let total = raw::total(&loaded, &image, &table, task as u64 + 1);
@@ -172,7 +180,7 @@ fn chunk_sizes_are_multiples_of_the_blocksize() {
 
 #[test]
 fn refused_calls_hand_back_zeros_or_what_they_were_given() {
-    let plan = Plan { order: 2, version: 1, patch: 7, blocksize: 512, planned: 1 };
+    let plan = Plan { order: 2, version: 1, patch: 7, format: 3, blocksize: 512, planned: 1 };
     let opened = raw::open(plan, &[0], &[1], b"", &mut [], &mut []);
     assert_eq!(opened, Opened { session: NO_SESSION, refusal: 2 });
     assert_eq!(raw::needs(plan, &[0], &[1], b""), Needed { refusal: 2, image: 0, cells: 0 });

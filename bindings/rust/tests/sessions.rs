@@ -3,7 +3,7 @@
 mod common;
 
 use common::*;
-use lapurmihi::{ByteOrder, Container, Needs, Plan, Refusal};
+use lapurmihi::{ByteOrder, Container, Format, Needs, Plan, Refusal};
 
 #[test]
 fn the_papers_session() {
@@ -126,6 +126,30 @@ fn written(hostile: bool) -> (Vec<u8>, Vec<i64>) {
 #[test]
 fn refused_writes_change_nothing() {
     assert_eq!(written(true), written(false));
+}
+
+/// The paper's session in both formats: the same answers and the same bytes but for fileformat_version, and an idle task that has a chunk in one
+/// of them.
+#[test]
+fn formats_differ_in_idle_tasks_alone() {
+    let run = |format: Format| {
+        let plan = paper().format(format);
+        let (mut image, mut table) = memory(&plan);
+        let mut session = plan.open(&mut image, &mut table).unwrap();
+        let begun = [session.chunks_begun(1), session.chunks_begun(2)];
+        let lengths = [513, 300, 212, 512, 1, 511, 513, 1];
+        let answers = lengths.map(|length| session.write(1, &bytes(length)));
+        let bytes = session.close().unwrap();
+        let start = bytes[1536..3072 + 1536].to_vec();
+        let container = Container::from_bytes(bytes.to_vec()).unwrap();
+        assert_eq!(container.format(), format);
+        let chunk = container.task(2).unwrap().chunk(1).map(<[u8]>::len);
+        (answers, start, begun, chunk)
+    };
+    let (three, four) = (run(Format::V3), run(Format::V4));
+    assert_eq!((&three.0, &three.1), (&four.0, &four.1));
+    assert_eq!((three.2, four.2), ([Ok(0); 2], [Ok(1); 2]));
+    assert_eq!((three.3, four.3), (Err(Refusal::NoChunk), Ok(0)));
 }
 
 #[test]

@@ -15,14 +15,13 @@ use format::head::Head;
 use format::head::LISTS;
 use format::session::Closed;
 use format::session::Session;
-use rules::heads;
 
 // The greatest of the counts.
 fn most_chunks(lists: &[u64], n: u32) -> u64
     requires { ⌜ (length (now lists) ≡ allLists) × (n ≤ maxTasks) ⌝ }
     ensures { λ r. ⌜ r ≡ maxchunksOf n (now (lists .entry)) ⌝ }
 {
-    heads::greatest(&lists[head::COUNTS..LISTS], n as usize)
+    tables::greatest(&lists[head::COUNTS..LISTS], n as usize)
 }
 
 // META2, then the fields that say how long it is and where: the end of META2.

@@ -21,8 +21,9 @@ use Rattle.format.proofs.Opening.{plan-sound}
 use Rattle.format.specs.Container.{InBounds, HasMeta1, HasMeta2, valueOf}
 use Rattle.container.specs.Start.{VersionsFit}
 use Rattle.container.specs.WrittenBack.{contentsOf}
+use Rattle.format.proofs.Formats.{format-known, format-small, least-idle}
 use Rattle.format.proofs.InBounds.{in-bounds}
-use Rattle.container.proofs.ClosedParts.{Closable, closedAs, startIn, valueIn, closing, apart, end-after, closed-most, closed-reached, in-range, not-used, used-small, closed-long, meta1-there, part-there}
+use Rattle.container.proofs.ClosedParts.{Closable, closedAs, startIn, valueIn, closing, apart, end-after, closed-most, closed-least, closed-reached, in-range, not-used, used-small, closed-long, meta1-there, part-there}
 
 module _ (o : Opening) (st : State) (c : Closable o st) (tail : List ℕ) where
   abbrev m : ℕ
@@ -44,6 +45,7 @@ module _ (o : Opening) (st : State) (c : Closable o st) (tail : List ℕ) where
       let small = meta2End-small sound m few in
       let block = blocksize-facts (o .plan .blocksize) (c .plan .block) in
       let short = c .plan .prefix-short in
+      let known = format-known (c .plan .format) in
       record {
         bounds = bounds;
         long = omega (arith, closed-long o st c tail, apart o st c, end-after o st c);
@@ -51,7 +53,8 @@ module _ (o : Opening) (st : State) (c : Closable o st) (tail : List ℕ) where
         order-is = Stored.order-back _ _ _ _ _ _ _ short stored;
         version-is = Stored.version-back _ _ _ _ _ _ _ short stored (fit .0);
         patch-is = Stored.patch-back _ _ _ _ _ _ _ short stored (fit .1);
-        format-is = Stored.format-back _ _ _ _ _ _ _ short stored;
+        format-is = Stored.format-back _ _ _ _ _ _ _ short stored (format-small known);
+        format-known = known;
         blocksize-is = Stored.blocksize-back _ _ _ _ _ _ _ short stored (omega arith);
         tasks-are = Stored.tasks-back _ _ _ _ _ _ _ short stored (omega (arith, c .plan .few-tasks));
         files-are = Stored.files-back _ _ _ _ _ _ _ short stored;
@@ -83,6 +86,7 @@ module _ (o : Opening) (st : State) (c : Closable o st) (tail : List ℕ) where
         (Stored.count-back (isBig (openHead o)) (tasks o) m (countOf (st .lists)) (cell (st .table)) i l
         (omega (arith, closed-most o st c i l, few)));
     counts-range = closed-most o st c;
+    counts-idle = λ four i l. least-idle (closed-least o st c i l) four;
     greatest = closed-reached o st c;
     used-first = λ i k l u.
         let e = in-range o st c i k l u .0 in

@@ -20,7 +20,7 @@ use Rattle.format.proofs.Chunks.{meta1-before-data, capacity-small}
 use Rattle.format.proofs.Power.{blocksize-facts}
 use Rattle.format.specs.declared.head.Head.{Head}
 use Rattle.format.specs.Meta1.{lastAt, lastFields, meta1Front, meta1}
-use Rattle.format.specs.Meta2.{valueIndex, unused, valuesRule, meta2}
+use Rattle.format.specs.Meta2.{valueIndex, unused, valuesRule, leastCount, meta2}
 use Rattle.format.specs.Record.{entry, cell, sizeOf, countOf, isBig, holds, meta2At, endAt, cellsAgree}
 use Rattle.format.proofs.Rules.{values-used, values-unused}
 use Rattle.format.specs.Session.{State}
@@ -161,6 +161,10 @@ module _ (o : Opening) (st : State) (c : Closable o st) where
 
   pub closed-most : (i : ℕ) → i < tasks o → countOf (st .lists) i ≤ m
   closed-most i l = stores .most i (rw tasks-are l)
+
+  pub closed-least : (i : ℕ) → i < tasks o → leastCount (o .plan .format) ≤ countOf (st .lists) i
+  unfolding openHead
+  closed-least i l = rw (ap (λ (h : Head). h .format) (c .head-is)) at (closing .counts i (rw tasks-are l) .0)
 
   pub closed-reached : (i : ℕ) × (i < tasks o) × (countOf (st .lists) i ≡ m)
   closed-reached = let (i, l, e) = stores .reached in (i, rw (sym tasks-are) l, e)

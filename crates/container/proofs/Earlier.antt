@@ -5,14 +5,18 @@ use Prim.Native.Nat.{ℕ}
 use native.Mathlib.Nat.{le-trans}
 use native.Mathlib.Omega.{arith}
 use lib.ListN.{length}
-use Rattle.format.specs.Container.{HasMeta2, WasContainer}
+use Rattle.format.specs.Layout.{requested}
+use Rattle.format.specs.Container.{HasMeta2, ContainerWith, WasContainer}
 use Rattle.format.proofs.Chunks.{capacity-enough}
 use Rattle.format.proofs.Every.{every, says}
 use Rattle.container.specs.Earlier.{StaysAcceptable}
 use Rattle.container.proofs.Refusing.{load-number}
 use Rattle.container.proofs.ReadsBack.{reads-back, refuses-back}
 
-module _ (image : List ℕ) (was : WasContainer image) where
+module _ (image : List ℕ) (c : WasContainer image) where
+  abbrev was : ContainerWith requested image
+  was = c .was
+
   -- a value that is at most the requested size is at most what a chunk holds
   has-meta2 : HasMeta2 image (was .says)
   has-meta2 =
@@ -22,13 +26,14 @@ module _ (image : List ℕ) (was : WasContainer image) where
         fits = w .fits;
         counts-are = w .counts-are;
         counts-range = w .counts-range;
+        counts-idle = w .counts-idle;
         greatest = w .greatest;
         used-first = w .used-first;
         used-fit = λ i k l u. le-trans (w .used-fit i k l u) (capacity-enough (was .says .blocksize) (was .says .size i) (omega (arith, b)));
         others-unused = w .others-unused;
       }
 
-  pub stays-acceptable : StaysAcceptable image was
+  pub stays-acceptable : StaysAcceptable image c
   stays-acceptable = record {
     is-container = record { says = was .says; first = was .first; second = has-meta2 };
     says-same = refl;

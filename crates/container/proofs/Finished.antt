@@ -24,11 +24,12 @@ use Rattle.format.specs.Open.{Opening, tasks, openRefusal, openHead, openSessio
 use Rattle.format.specs.Write.{Request}
 use Rattle.format.specs.Close
 use Rattle.format.specs.Close.{maxchunksOf, closeImage}
-use Rattle.format.specs.Tally.{termsOf}
+use Rattle.format.specs.Tally.{countBy, termsOf}
+use Rattle.tally.proofs.Counts.{count-over}
 use Rattle.tally.proofs.Places.{reachable-blank, placed-in}
 use Rattle.tally.proofs.Opened.{opened-simulates, planned-layout}
 use Rattle.tally.proofs.Streams.{front-kept}
-use Rattle.container.specs.Start.{begunBy, mostBegun, Start, after, Puts, openedStart, bookAfter}
+use Rattle.container.specs.Start.{countAfter, greatestCount, Start, after, Puts, openedStart, bookAfter}
 use Rattle.container.specs.WrittenBack.{Finished}
 use Rattle.container.specs.Room.{Claim}
 use Rattle.container.proofs.Refusing.{open-number}
@@ -47,7 +48,7 @@ module _ (o : Opening) (image : List ℕ) (table : List ℤ) (qs : List Request)
   st = after s qs
 
   abbrev m : ℕ
-  m = mostBegun s qs
+  m = greatestCount s qs
 
   claim : Claim s qs
   claim = room s (is-start o image table zero) qs
@@ -67,7 +68,7 @@ module _ (o : Opening) (image : List ℕ) (table : List ℤ) (qs : List Request)
   unfolding maxchunksOf
   used-is =
       ap (λ (n : ℕ). greatestBelow n (countOf (st .lists))) tasks-are
-      ∙ greatest-cong (countOf (st .lists)) (begunBy s qs) (tasks o) (claim .kept .counts)
+      ∙ greatest-cong (countOf (st .lists)) (countAfter s qs) (tasks o) (claim .kept .counts)
 
   -- ---- between META1 and D
 
@@ -100,9 +101,10 @@ module _ (o : Opening) (image : List ℕ) (table : List ℤ) (qs : List Request)
       let layout = planned-layout o (c .plan .block) in
       let (k, i, e, there, taken) = placed-in _ _ (termsOf o) layout (reachable-blank (termsOf o)) landed in
       let back : task - 1 + 1 ≡ task = omega (arith, there .low) in
-      let begun : k ≤ begunBy s qs (task - 1) =
-      subst (λ (t : ℕ). k ≤ bookAfter s qs t .u) (sym back) (taken .begun) in
-      let most = greatest-ge (begunBy s qs) (tasks o) (task - 1) (omega (arith, there .low, there .top)) in
+      let begun : k ≤ countAfter s qs (task - 1) =
+      subst (λ (t : ℕ). k ≤ countBy (o .plan .format) (bookAfter s qs t)) (sym back)
+      (omega (arith, taken .begun, count-over (o .plan .format) (bookAfter s qs task))) in
+      let most = greatest-ge (countAfter s qs) (tasks o) (task - 1) (omega (arith, there .low, there .top)) in
       let start = chunk-after-data (o .plan .blocksize) (tasks o) (entry (o .sizes)) task k in
       let end =
       chunk-before-meta2 (o .plan .blocksize) (tasks o) (entry (o .sizes)) task k (Close.maxchunksUsed st) (there .low) (there .top) (there .one)
@@ -133,7 +135,7 @@ module _ (o : Opening) (image : List ℕ) (table : List ℤ) (qs : List Request)
 
   -- META2's counts are the tally's
   counts-are : meta2 (isBig (openHead o)) (tasks o) (Close.maxchunksUsed st) (countOf (st .lists)) (cell (st .table))
-      ≡ meta2 (isBig (openHead o)) (tasks o) (Close.maxchunksUsed st) (begunBy s qs) (cell (st .table))
+      ≡ meta2 (isBig (openHead o)) (tasks o) (Close.maxchunksUsed st) (countAfter s qs) (cell (st .table))
   unfolding meta2
   counts-are =
       ap (λ (counts : List ℕ). counts ++ joinBelow (tasks o * Close.maxchunksUsed st) (λ j. signedDigits (isBig (openHead o)) 8 (cell (st .table) j)))

@@ -17,7 +17,7 @@ use Rattle.container.proofs.Opens.{opens-exactly}
 use Rattle.container.proofs.Stores.{opening-stores, close-stores, closed-ends}
 use Rattle.container.proofs.Starts.{is-start, has-front}
 use Rattle.container.proofs.WrittenBack.{written-back}
-use Rattle.container.proofs.Rooms.{room, alike}
+use Rattle.container.proofs.Rooms.{room, alike, any-version}
 use Rattle.container.proofs.Finished.{finished}
 use Rattle.container.proofs.Earlier.{stays-acceptable}
 
@@ -76,5 +76,6 @@ promises = record {
   written-back = written-back;
   room = room;
   alike = alike;
+  any-version = any-version;
   starts = λ o image table e. (is-start o image table (opens o image table e), has-front o image table (opens o image table e));
 }

@@ -29,6 +29,7 @@ use Rattle.format.specs.Load.{loadRefusal, loadAnswer, loadTable}
 use Rattle.format.specs.Reads.{Container, containerOf, loadedTests, readTests, chunksUsed, writtenIn, chunkBytes, chunkRefusal, chunkPart, streamOf, totalOf, totalAnswer, readRefusal, readAnswer, readOutput, loadedFrom}
 use Rattle.format.specs.About.{chunkSizeAnswer, wholeRefusal, lengthAnswer, prefixAnswer}
 use Rattle.container.specs.Format.{bytesSaid, streamSaid, totalSaid, ReadsBack, RefusesBack}
+use Rattle.format.proofs.Formats.{format-kept}
 use Rattle.format.proofs.InBounds.{block-kept, tasks-kept, ranks-kept, sizes-kept}
 use Rattle.format.proofs.Every.{headSaid, listsSaid, few, maxchunks-kept, counts-kept, values-kept, loaded-is, lists-are, table-long, says}
 use Rattle.container.proofs.Refusing.{total-number, read-number}
@@ -68,6 +69,7 @@ module _ (image : List ℕ) (s : Contents) (one : HasMeta1 image s) (two : HasMe
   loaded-sound =
       rw (
         order-sound (s .big),
+        format-kept (one .format-known),
         block-kept (one .bounds),
         tasks-kept (one .bounds),
         ranks-kept (one .bounds) _ (λ i l. ap pos (rank-is i l)),

@@ -198,7 +198,7 @@ module _ (c : Container) where
 module _ (o : Opening) where
   needs-listed : OneOf (0 ∷ needsNumbers) (firstFailing (planTests o))
   unfolding planTests shapeTests numberTests listed
-  needs-listed = one-of-tests needsNumbers _ (refl, (refl, (refl, (refl, (refl, (refl, (refl, tt)))))))
+  needs-listed = one-of-tests needsNumbers _ (refl, (refl, (refl, (refl, (refl, (refl, (refl, (refl, tt))))))))
 
   pub needs-refuses : NeedsRefuses o
   needs-refuses = record {
@@ -229,7 +229,7 @@ module _ (o : Opening) (image : List ℕ) (table : List ℤ) where
 
   open-listed : OneOf (0 ∷ openNumbers) (openRefusal o (length image) (length table))
   unfolding openRefusal planTests shapeTests numberTests listed
-  open-listed = one-of-tests openNumbers _ (refl, (refl, (refl, (refl, (refl, (refl, (refl, (refl, tt))))))))
+  open-listed = one-of-tests openNumbers _ (refl, (refl, (refl, (refl, (refl, (refl, (refl, (refl, (refl, tt)))))))))
 
   pub needs-says : NeedsSays o image table
   needs-says = record {

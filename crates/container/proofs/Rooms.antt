@@ -1,23 +1,26 @@
 -- Demand 3: from every start, a task can count on its room, over every list of writes.
-use mathlib.Core.Path.{_≡_, refl, sym, ap, subst, _∙_}
+use mathlib.Core.Path.{_≡_, refl, sym, ap, ap₂, subst, _∙_}
 use mathlib.Core.List.{List, [], _∷_, _++_}
-use Prim.Native.Nat.{ℕ, _+_, _-_, _*_, _<_}
+use Prim.Native.Nat.{ℕ, _+_, _-_, _*_, _≤_, _<_}
 use native.Mathlib.Omega.{arith}
 use lib.ListN.{length, getD}
+use Rattle.format.specs.Layout.{meta2End}
 use Rattle.format.specs.Meta2.{valueIndex}
 use Rattle.format.specs.Record.{entry, cell, endAt}
 use Rattle.format.specs.Open.{Opening, tasks, openHead, openSession}
 use Rattle.format.specs.Write.{Request, writeRefusal, afterWrite}
-use Rattle.format.specs.Tally.{Terms, Tallies, termsOf, fedOf, fed, answers, outcomeIn, answerTo, feed, feedAll, held, Fed}
+use Rattle.format.specs.Tally.{Terms, Tallies, termsOf, fedOf, fed, answers, outcomeIn, answerTo, feed, feedAll, held, Fed, PlacedAt}
 use Rattle.tally.proofs.Share.{ShareInvariant, reachable-all, share-all, refused-full, at-most, alone}
-use Rattle.tally.proofs.Places.{Layout, imageAfter, length-after, placed, others, own-blocks}
+use Rattle.tally.proofs.Places.{Layout, imageAfter, length-after, placed, others, same-after, own-blocks}
+use Rattle.tally.proofs.Counts.{count-begun, count-most}
 use Rattle.tally.specs.Simulates.{Reachable, AllReachable, termsIn, Simulates}
 use Rattle.tally.proofs.Simulating.{RunSimulates}
 use Rattle.tally.proofs.Steps.{cells-kept, run-simulates, step-simulates, passes}
 use Rattle.tally.proofs.Middle.{answer-at, held-before, after-last, feed-last}
 use Rattle.tally.proofs.Opened.{terms-are, planned-layout}
-use Rattle.container.specs.Start.{Start, IsStart, after, answersTo, bookAfter, begunBy}
+use Rattle.container.specs.Start.{Start, IsStart, after, answersTo, bookAfter, countAfter}
 use Rattle.container.specs.Room.{Answers, Placed, Kept, Claim, Alike}
+use Rattle.container.specs.Versions.{inFormat, SameWrites}
 use Rattle.format.proofs.InBounds.{block-kept}
 
 module _ (s : Start) (is : IsStart s) where
@@ -79,11 +82,14 @@ module _ (s : Start) (is : IsStart s) where
         (refused-full (termsOf o) _ (fedOf q) _ _ (shared before (q .task))
         (sym (next-number before q) ∙ sym (answer-at (s .state) before rest q) ∙ e))
 
-    cells-at : (i k : ℕ) → i < tasks o → (q .task ≡ i + 1 → k + 1 ≡ begunBy s (before ++ (q ∷ [])) i → ⊥)
+    cells-at : (i k : ℕ) → i < tasks o → (q .task ≡ i + 1 → k + 1 ≡ countAfter s (before ++ (q ∷ [])) i → ⊥)
         → cell (after s (before ++ (q ∷ [])) .table) (valueIndex (tasks o) k i) ≡ cell (after s before .table) (valueIndex (tasks o) k i)
     cells-at i k l d =
         rw (after-last (s .state) before q)
-        (next-cells before q i k l (λ e u. d e (u ∙ ap (λ (b : Tallies). b (i + 1) .u) (sym (feed-last (termsOf o) (s .book) before q)))))
+        (next-cells before q i k l
+        (λ e u.
+        let same = u ∙ ap (λ (b : Tallies). b (i + 1) .u) (sym (feed-last (termsOf o) (s .book) before q)) in
+        d e (same ∙ sym (count-begun (o .plan .format) (bookAfter s (before ++ (q ∷ [])) (i + 1)) (omega arith)))))
 
   -- ---- the whole list
 
@@ -124,7 +130,9 @@ module _ (s : Start) (is : IsStart s) where
       counts = λ i l. last qs .counts-are i l;
       other-entries = run qs .other-entries;
       lists-as-long = last qs .as-many ∙ sym (is .follows .as-many);
-      last-cells = λ i k l e. last qs .cells-are i k l (omega (arith, e, reached qs (i + 1) .most)) .last e;
+      last-cells = λ i k l e.
+          let most = count-most (o .plan .format) (bookAfter s qs (i + 1)) (is .good .planned-range .0) (reached qs (i + 1) .most) in
+          last qs .cells-are i k l (omega arith) .last e;
       later-cells = λ i k l e m. last qs .cells-are i k l m .none e;
       next-cells = λ before rest q e i k l d. cells-at before rest q i k l d;
       other-cells = run qs .other-cells;
@@ -146,3 +154,27 @@ alike s t is it e d qs qs′ task own =
     ap₃ : (f : Terms → Tallies → List Fed → List ℕ) {p p′ : Terms} {b b′ : Tallies} {l l′ : List Fed} → p ≡ p′ → b ≡ b′ → l ≡ l′
         → f p b l ≡ f p′ b′ l′
     ap₃ f x y z = cc (x, y, z)
+
+-- a length that is enough for a plan is so for one of another version
+long-in : (format bytes : ℕ) (o : Opening) {o′ : Opening} → o′ ≡ inFormat format o
+    → endAt (openHead o′) (entry (o′ .sizes)) (o′ .plan .planned) ≤ bytes → endAt (openHead o) (entry (o .sizes)) (o .plan .planned) ≤ bytes
+unfolding endAt openHead
+long-in format bytes o e long =
+    subst (λ (o : Opening). meta2End (o .plan .blocksize) (tasks o) (entry (o .sizes)) (o .plan .planned) ≤ bytes) e long
+
+-- the tally is fed the same of both
+pub any-version : (s t : Start) → IsStart s → IsStart t → (format : ℕ) → t .plan ≡ inFormat format (s .plan) → s .book ≡ t .book
+    → (qs : List Request) → SameWrites s t qs
+unfolding openSession
+any-version s t is it format e d qs =
+    let p : termsOf (s .plan) ≡ termsOf (t .plan) = ap termsOf (sym e) in
+    record {
+      answers = as-tally s is qs ∙ ap₂ (λ (p : Terms) (b : Tallies). answers p b (fed qs)) p d ∙ sym (as-tally t it qs);
+      offsets = λ task at value.
+          let puts = ap₂ (λ (p : Terms) (b : Tallies). PlacedAt p task at value b qs) p d in
+          (subst (λ (P : Type 0). P) puts, subst (λ (P : Type 0). P) (sym puts));
+      bytes = λ at same.
+          rw (image-is s is qs, image-is t it qs, ← p, ← d)
+          (same-after _ _ (termsOf (s .plan)) (layout s is) qs (s .book) (s .state .image) (t .state .image) at
+          (is .follows .image-long) (long-in format _ (s .plan) e (it .follows .image-long)) (all-reachable s is) same);
+    }

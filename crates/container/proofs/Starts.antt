@@ -7,13 +7,14 @@ use lib.IntN.{ℤ}
 use lib.ListN.{length, take}
 use lib.Seq.{take-take}
 use Rattle.container.specs.Start.{openedStart, IsStart, HasFront}
-use Rattle.tally.specs.Simulates.{bytesIn, streamIn}
+use Rattle.tally.specs.Simulates.{streamIn}
 use Rattle.format.specs.Open.{Opening, openRefusal, openSession, tasks, openHead, opened}
 use Rattle.lists.specs.Below.{joinBelow}
 use Rattle.format.proofs.Opens.{opens-only}
 use Rattle.format.specs.Layout.{meta1End, dataStart}
 use Rattle.tally.proofs.Opened.{opened-simulates}
 use Rattle.tally.proofs.Share.{reachable-initial}
+use Rattle.tally.proofs.Streams.{stream-is}
 use Rattle.format.specs.Tally.{termsOf}
 use Rattle.format.proofs.Opening.{opening-holds}
 use Rattle.format.proofs.Power.{blocksize-facts}
@@ -25,8 +26,8 @@ use Rattle.format.specs.Record.{entry}
 
 module _ (o : Opening) (image : List ℕ) (table : List ℤ) (zero : openRefusal o (length image) (length table) ≡ 0) where
   none-begun : (i : ℕ) → i < tasks o → streamIn (opened o image table) i ≡ []
-  unfolding streamIn joinBelow openSession openHead
-  none-begun i l = ap (λ (n : ℕ). joinBelow n (bytesIn (opened o image table) i)) (opened-simulates o image table zero .counts-are i l)
+  unfolding joinBelow openSession openHead
+  none-begun i l = stream-is (opened-simulates o image table zero) i l
 
   pub is-start : IsStart (openedStart o image table)
   is-start = record {

@@ -6,7 +6,7 @@ use Prim.Native.Nat.{ℕ, _+_, _-_, _*_, _≤_, _<_}
 use native.Mathlib.Nat.{zero-add}
 use native.Mathlib.Omega.{arith}
 use lib.IntN.{ℤ}
-use lib.ListN.{length, take, drop, getD, replicate, length-replicate}
+use lib.ListN.{length, take, drop, getD, replicate}
 use Rattle.lists.specs.Splice.{splice}
 use Rattle.lists.proofs.Below.{greatest-at}
 use Rattle.lists.proofs.Splice.{length-splice, splice-here, splice-after, splice-first, splice-rest, getD-splice-out}
@@ -15,7 +15,7 @@ use Rattle.format.proofs.Chunks.{meta1-before-data}
 use Rattle.format.proofs.Power.{blocksize-facts}
 use Rattle.format.specs.declared.head.Head.{Head}
 use Rattle.format.specs.Meta1.{lastAt, lastFields, meta1, openingBytes}
-use Rattle.format.specs.Meta2.{unused, meta2}
+use Rattle.format.specs.Meta2.{leastCount, meta2}
 use Rattle.format.specs.Record.{entry, cell, sizeOf, countOf, isBig, meta2At, endAt}
 use Rattle.format.proofs.Refusals.{when-accepted}
 use Rattle.format.proofs.Passing.{head-tasks, head-block, passed-used}
@@ -23,7 +23,7 @@ use Rattle.format.proofs.Stored.{length-last, length-opening, length-meta2}
 use Rattle.format.specs.declared.session.Session.{Session}
 use Rattle.format.specs.declared.session.Closed.{Closed}
 use Rattle.format.specs.Session.{State, asClosed}
-use Rattle.format.specs.Open.{Opening, tasks, openRefusal, openHead, openSession, openLists, openAnswer, openImage}
+use Rattle.format.specs.Open.{Opening, tasks, blankCells, openRefusal, openHead, openSession, openLists, openAnswer, openImage}
 use Rattle.format.specs.Close.{maxchunksOf, maxchunksUsed, closeRefusal, finished, closedImage, closeAnswer, closeImage}
 use Rattle.format.proofs.Opening.{OpeningHolds, opening-holds, opening-data, opened-session, opened-lists, opened-image, opened-table}
 use Rattle.format.specs.Passed.{Passed}
@@ -31,6 +31,8 @@ use Rattle.format.proofs.Sessions.{session-passed}
 use Rattle.container.specs.Format.{Begun, OpeningStores, CloseStores}
 use Rattle.container.specs.Refusing.{Ended, afterClose}
 use Rattle.container.proofs.Refusing.{open-number, close-number, flag-ends}
+use Rattle.format.proofs.Formats.{least-one}
+use Rattle.format.proofs.Blank.{length-blank}
 use Rattle.format.proofs.Every.{lists-hold, head-says}
 
 -- ---- opening
@@ -49,14 +51,14 @@ module _ (o : Opening) (image : List ℕ) (table : List ℤ) where
           head = head-says (ap (λ (s : Session). s .head) e);
           planned = ap (λ (s : Session). s .planned) e;
           not-closed = ap (λ (s : Session). s .closed) e;
-          listed = lists-hold (tasks o) (entry (o .ranks)) (entry (o .sizes)) (λ i. 0) few (opened-lists o image table zero);
+          listed = lists-hold (tasks o) (entry (o .ranks)) (entry (o .sizes)) (λ i. leastCount (o .plan .format)) few (opened-lists o image table zero);
         }
 
     abbrev stored : List ℕ
     stored = openingBytes (openHead o) (entry (o .ranks)) (entry (o .sizes)) (o .prefix)
 
     abbrev fresh : List ℤ
-    fresh = replicate (tasks o * o .plan .planned) unused
+    fresh = blankCells (leastCount (o .plan .format)) (tasks o) (o .plan .planned)
 
     stored-long : length stored ≡ dataStart (o .plan .blocksize) (tasks o)
     unfolding openHead
@@ -68,7 +70,8 @@ module _ (o : Opening) (image : List ℕ) (table : List ℤ) where
     stored-fits = rw (zero-add, stored-long) (opening-data o facts)
 
     fresh-long : length fresh ≡ tasks o * o .plan .planned
-    fresh-long = length-replicate (tasks o * o .plan .planned) unused
+    fresh-long =
+        length-blank (leastCount (o .plan .format)) (tasks o) (o .plan .planned) (omega (arith, least-one (o .plan .format), facts .plan .some))
 
     fresh-fits : 0 + length fresh ≤ length table
     fresh-fits = rw (zero-add, fresh-long) (facts .table-long)
@@ -83,7 +86,7 @@ module _ (o : Opening) (image : List ℕ) (table : List ℤ) where
     opened-as-long = ap length (opened-image o image table zero) ∙ length-splice image 0 stored stored-fits
 
     opened-stores : OpeningStores o image table
-    unfolding openingBytes openSession openHead
+    unfolding openingBytes openSession openHead blankCells
     opened-stores =
         let d : ℕ = dataStart (o .plan .blocksize) (tasks o) in
         let session = opened-session o image table zero in
@@ -196,7 +199,7 @@ module _ (st : State) where
 
     closed-stores : CloseStores st m
     closed-stores = record {
-      most = closing .counts;
+      most = λ i l. closing .counts i l .1;
       reached = count-reached;
       second = second-there;
       fields = last-there;

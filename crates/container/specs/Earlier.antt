@@ -17,7 +17,7 @@ pub record LoadsAsBefore (image : List ℕ) (said : Contents) (table : List ℤ)
   pub reads : ReadsBack image said (loadedFrom image table)
   pub refuses : RefusesBack said (loadedFrom image table)
 
-pub record StaysAcceptable (image : List ℕ) (was : WasContainer image) : Type 0 where
+pub record StaysAcceptable (image : List ℕ) (c : WasContainer image) : Type 0 where
   pub is-container : IsContainer image
-  pub says-same : is-container .says ≡ was .says
-  pub loads : (table : List ℤ) → was .says .n * was .says .maxchunks ≤ length table → LoadsAsBefore image (was .says) table
+  pub says-same : is-container .says ≡ c .was .says
+  pub loads : (table : List ℤ) → c .was .says .n * c .was .says .maxchunks ≤ length table → LoadsAsBefore image (c .was .says) table

@@ -4,13 +4,13 @@ use mathlib.Core.Path.{_≡_}
 use mathlib.Core.List.{List, _++_}
 use mathlib.Core.Logic.{_⊎_}
 use Prim.Native.Nat.{ℕ, _+_, _-_, _*_, _≤_, _<_, min}
-use lib.IntN.{ℤ}
+use lib.IntN.{ℤ, pos}
 use lib.ListN.{length, getD, take, drop, replicate}
 use Rattle.lists.specs.Below.{sumBelow, joinBelow}
 use Rattle.lists.specs.Splice.{splice}
 use Rattle.format.specs.Layout.{meta1End, dataStart, capacity, chunkStart, meta2End}
 use Rattle.format.specs.Meta1.{prefixAt, prefixLength, lastAt, lastFields, meta1}
-use Rattle.format.specs.Meta2.{unused, meta2}
+use Rattle.format.specs.Meta2.{unused, leastCount, meta2}
 use Rattle.format.specs.Record.{entry, cell, sizeOf, countOf, isBig, meta2At, endAt}
 use Rattle.format.specs.declared.session.Session.{Session}
 use Rattle.format.specs.Session.{State, asClosed}
@@ -86,21 +86,23 @@ pub record OpensExactly (o : Opening) (image : List ℕ) (table : List ℤ) : Ty
   pub sized : GoodPlan o → (task : ℕ) → 1 ≤ task → task ≤ tasks o
       → chunkSizeAnswer (entry (o .sizes) (task - 1)) (o .plan .blocksize) ≡ record { refusal = 0; bytes = termsOf o .c task }
 
--- the record of an opening says what the opening was given; no chunk is begun, and it is not marked closed
+-- the record of an opening says what the opening was given; each task has the least count, 0 or in version 4 1; and it is not marked closed
 pub record Begun (o : Opening) (s : Session) (lists : List ℕ) : Type 0 where
-  pub head : HeadSays (s .head) (o .plan .order) (o .plan .version) (o .plan .patch) (o .plan .blocksize) (tasks o)
+  pub head : HeadSays (s .head) (o .plan .order) (o .plan .version) (o .plan .patch) (o .plan .format) (o .plan .blocksize) (tasks o)
   pub planned : s .planned ≡ o .plan .planned
   pub not-closed : s .closed ≡ 0
-  pub listed : Lists (tasks o) (entry (o .ranks)) (entry (o .sizes)) (λ i. 0) lists
+  pub listed : Lists (tasks o) (entry (o .ranks)) (entry (o .sizes)) (λ i. leastCount (o .plan .format)) lists
 
--- META1 of that record with zeros up to D, -1 in the first n·K cells, and nothing else
+-- META1 of that record with zeros up to D; -1 in the first n·K cells, but 0 where the counts say that a chunk is in use; and nothing else
 pub record OpeningStores (o : Opening) (image : List ℕ) (table : List ℤ) : Type 0 where
   pub begun : Begun o (openAnswer o image table .session) (openAnswer o image table .lists)
   pub bytes : take (dataStart (o .plan .blocksize) (tasks o)) (openImage o image table)
       ≡ meta1 (openAnswer o image table .session .head) (entry (o .ranks)) (entry (o .sizes)) (o .prefix) 0 0
       ++ replicate (dataStart (o .plan .blocksize) (tasks o) - meta1End (tasks o)) 0
   pub other-bytes : drop (dataStart (o .plan .blocksize) (tasks o)) (openImage o image table) ≡ drop (dataStart (o .plan .blocksize) (tasks o)) image
-  pub cells : take (tasks o * o .plan .planned) (openTable o image table) ≡ replicate (tasks o * o .plan .planned) unused
+  pub cells : take (tasks o * o .plan .planned) (openTable o image table)
+      ≡ replicate (tasks o * leastCount (o .plan .format)) (pos 0)
+      ++ replicate (tasks o * (o .plan .planned - leastCount (o .plan .format))) unused
   pub other-cells : drop (tasks o * o .plan .planned) (openTable o image table) ≡ drop (tasks o * o .plan .planned) table
 
 -- where META2 of so many chunks starts and ends in a session's image

@@ -4,4 +4,5 @@ pub mod Start
 pub mod WrittenBack
 pub mod Room
 pub mod Earlier
+pub mod Versions
 pub mod Main

@@ -10,12 +10,13 @@ use Rattle.format.specs.Close.{maxchunksUsed, closeAnswer}
 use Rattle.format.specs.Container.{IsContainer, WasContainer}
 use Rattle.format.specs.Load.{loadAnswer}
 use Rattle.format.specs.Reads.{Container, loadedFrom}
-use Rattle.container.specs.Start.{Start, IsStart, HasFront, VersionsFit, Opens, openedStart, after, mostBegun}
+use Rattle.container.specs.Start.{Start, IsStart, HasFront, VersionsFit, Opens, openedStart, after, greatestCount}
 use Rattle.container.specs.Refusing.{Refusals}
 use Rattle.container.specs.Format.{AcceptsExactly, PartThere, ReadsBack, RefusesBack, OpensExactly, OpeningStores, CloseStores}
 use Rattle.container.specs.WrittenBack.{Finished, WrittenBack}
 use Rattle.container.specs.Room.{Claim, Alike}
 use Rattle.container.specs.Earlier.{StaysAcceptable}
+use Rattle.container.specs.Versions.{inFormat, SameWrites}
 
 pub record Promises : Type 0 where
   -- demand 1: any bytes and any request
@@ -30,11 +31,14 @@ pub record Promises : Type 0 where
   pub opening-stores : (o : Opening) → (image : List ℕ) → (table : List ℤ) → Opens o image table → OpeningStores o image table
   pub close-stores : (st : State) → closeAnswer st .refusal ≡ 0 → CloseStores st (maxchunksUsed st)
   pub finished : (o : Opening) → (image : List ℕ) → (table : List ℤ) → (qs : List Request) → Opens o image table
-      → Finished o image table qs (after (openedStart o image table) qs) (mostBegun (openedStart o image table) qs)
+      → Finished o image table qs (after (openedStart o image table) qs) (greatestCount (openedStart o image table) qs)
   pub written-back : (s : Start) → IsStart s → HasFront s → VersionsFit (s .plan) → (qs : List Request) → WrittenBack s qs
   -- demand 3: a task can count on its room
   pub room : (s : Start) → IsStart s → (qs : List Request) → Claim s qs
   pub alike : (s t : Start) → IsStart s → IsStart t → s .plan ≡ t .plan → s .book ≡ t .book → Alike s t
+  -- whatever the version: two starts whose plans differ in it only
+  pub any-version : (s t : Start) → IsStart s → IsStart t → (format : ℕ) → t .plan ≡ inFormat format (s .plan) → s .book ≡ t .book
+      → (qs : List Request) → SameWrites s t qs
   -- an accepted opening gives a start
   pub starts : (o : Opening) → (image : List ℕ) → (table : List ℤ) → Opens o image table
       → IsStart (openedStart o image table) × HasFront (openedStart o image table)

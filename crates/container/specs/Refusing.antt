@@ -39,11 +39,11 @@ abbrev pub totalNumbers : List ℕ
 totalNumbers = 17 ∷ 18 ∷ 19 ∷ 14 ∷ []
 
 abbrev pub openNumbers : List ℕ
-openNumbers = 2 ∷ 5 ∷ 6 ∷ 21 ∷ 8 ∷ 9 ∷ 20 ∷ 18 ∷ []
+openNumbers = 2 ∷ 4 ∷ 5 ∷ 6 ∷ 21 ∷ 8 ∷ 9 ∷ 20 ∷ 18 ∷ []
 
 -- of these, the numbers that it gets whatever it is lent
 abbrev pub needsNumbers : List ℕ
-needsNumbers = 2 ∷ 5 ∷ 6 ∷ 21 ∷ 8 ∷ 9 ∷ 20 ∷ []
+needsNumbers = 2 ∷ 4 ∷ 5 ∷ 6 ∷ 21 ∷ 8 ∷ 9 ∷ 20 ∷ []
 
 abbrev pub writeNumbers : List ℕ
 writeNumbers = 17 ∷ 18 ∷ 19 ∷ 14 ∷ 15 ∷ 16 ∷ []

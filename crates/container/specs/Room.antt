@@ -13,7 +13,7 @@ use Rattle.format.specs.Session.{sessionTests}
 use Rattle.format.specs.Open.{tasks}
 use Rattle.format.specs.Write.{Request}
 use Rattle.format.specs.Tally.{termsOf, fed, answers, held, own, ownAnswers}
-use Rattle.container.specs.Start.{Start, plannedBlocks, chunkSize, after, answersTo, bookAfter, begunBy, Puts}
+use Rattle.container.specs.Start.{Start, plannedBlocks, chunkSize, after, answersTo, bookAfter, countAfter, Puts}
 
 -- the answers: those of the tally, and for a task those of the tally for its own requests alone; wherever in the list a request is answered 16,
 -- twice the bytes, those accepted from its task before it and its own, exceed its chunk size times the planned blocks that it had not begun at the
@@ -35,20 +35,20 @@ pub record Placed (s : Start) (qs : List Request) : Type 0 where
   pub own-blocks : {task task′ at at′ value value′ : ℕ} → Puts s qs task at value → Puts s qs task′ at′ value′
       → at / s .plan .plan .blocksize ≡ at′ / s .plan .plan .blocksize → task ≡ task′
 
--- the record and the table: a task's count is the tally's u and its last cell the tally's w, later cells are -1; the numbers, all of the lists
--- but the tasks' counts, and the cells past n·K are as the start has them; and no request of the list moves a cell but the one that is then
--- its task's last
+-- the record and the table: a task's count is the tally's u, in version 4 the greater of u and 1, and its last cell the tally's w, later cells are
+-- -1; the numbers, all of the lists but the tasks' counts, and the cells past n·K are as the start has them; and no request of the list moves a
+-- cell but the one that is then its task's last
 pub record Kept (s : Start) (qs : List Request) : Type 0 where
   pub session : after s qs .session ≡ s .state .session
-  pub counts : (i : ℕ) → i < tasks (s .plan) → countOf (after s qs .lists) i ≡ begunBy s qs i
+  pub counts : (i : ℕ) → i < tasks (s .plan) → countOf (after s qs .lists) i ≡ countAfter s qs i
   pub other-entries : (j : ℕ) → (j < 2 * maxTasks) ⊎ (2 * maxTasks + tasks (s .plan) ≤ j) → entry (after s qs .lists) j ≡ entry (s .state .lists) j
   pub lists-as-long : length (after s qs .lists) ≡ length (s .state .lists)
-  pub last-cells : (i k : ℕ) → i < tasks (s .plan) → k + 1 ≡ begunBy s qs i
+  pub last-cells : (i k : ℕ) → i < tasks (s .plan) → k + 1 ≡ countAfter s qs i
       → cell (after s qs .table) (valueIndex (tasks (s .plan)) k i) ≡ pos (bookAfter s qs (i + 1) .w)
-  pub later-cells : (i k : ℕ) → i < tasks (s .plan) → begunBy s qs i ≤ k → k < plannedBlocks s
+  pub later-cells : (i k : ℕ) → i < tasks (s .plan) → countAfter s qs i ≤ k → k < plannedBlocks s
       → cell (after s qs .table) (valueIndex (tasks (s .plan)) k i) ≡ unused
   pub next-cells : (before rest : List Request) → (q : Request) → qs ≡ before ++ (q ∷ rest) → (i k : ℕ) → i < tasks (s .plan)
-      → (q .task ≡ i + 1 → k + 1 ≡ begunBy s (before ++ (q ∷ [])) i → ⊥)
+      → (q .task ≡ i + 1 → k + 1 ≡ countAfter s (before ++ (q ∷ [])) i → ⊥)
       → cell (after s (before ++ (q ∷ [])) .table) (valueIndex (tasks (s .plan)) k i) ≡ cell (after s before .table) (valueIndex (tasks (s .plan)) k i)
   pub other-cells : (j : ℕ) → tasks (s .plan) * plannedBlocks s ≤ j → cell (after s qs .table) j ≡ cell (s .state .table) j
   pub as-many : length (after s qs .table) ≡ length (s .state .table)

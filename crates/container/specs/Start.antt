@@ -13,7 +13,7 @@ use Rattle.format.specs.Record.{entry}
 use Rattle.format.specs.Session.{State}
 use Rattle.format.specs.Open.{Opening, tasks, openHead, openAnswer, opened, openSession}
 use Rattle.format.specs.Write.{Request, writes, refusals}
-use Rattle.format.specs.Tally.{termsOf, initial, fed, feedAll, PlacedAt, Tallies}
+use Rattle.format.specs.Tally.{termsOf, countBy, initial, fed, feedAll, PlacedAt, Tallies}
 use Rattle.format.specs.Accepted.{GoodPlan}
 use Rattle.tally.specs.Simulates.{Reachable, Simulates, streamIn}
 
@@ -38,7 +38,7 @@ pub record IsStart (s : Start) : Type 0 where
   pub reachable : (task : ℕ) → Reachable (s .plan .plan .planned) (termsOf (s .plan) .c task) (s .book task) (length (s .bytes task))
   pub streams : (i : ℕ) → i < tasks (s .plan) → streamIn (s .state) i ≡ s .bytes (i + 1)
 
--- the two version numbers are ones that 32 bits hold, as the entry's parameters do; every other number of an opening is tested
+-- library version and patch level are ones that 32 bits hold, as the entry's parameters do; every other number of an opening is tested
 abbrev pub VersionsFit : Opening → Type 0
 VersionsFit o = (mag (o .plan .version) < 2 ^ 31) × (mag (o .plan .patch) < 2 ^ 31)
 
@@ -67,12 +67,12 @@ module _ (s : Start) where
     abbrev pub bookAfter : Tallies
     bookAfter = feedAll (termsOf (s .plan)) (s .book) (fed qs)
 
-    -- the chunks that task i + 1 has begun, and the greatest of these numbers, which is maxchunks
-    abbrev pub begunBy : ℕ → ℕ
-    begunBy i = bookAfter (i + 1) .u
+    -- the count of task i + 1: the chunks that it has begun, in version 4 at least 1; and the greatest of these numbers, which is maxchunks
+    abbrev pub countAfter : ℕ → ℕ
+    countAfter i = countBy (s .plan .plan .format) (bookAfter (i + 1))
 
-    abbrev pub mostBegun : ℕ
-    mostBegun = greatestBelow (tasks (s .plan)) begunBy
+    abbrev pub greatestCount : ℕ
+    greatestCount = greatestBelow (tasks (s .plan)) countAfter
 
     -- among these writes is an accepted one of the task, with a byte of this value that the tally puts at this offset
     abbrev pub Puts : ℕ → ℕ → ℕ → Type 0

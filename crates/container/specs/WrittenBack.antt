@@ -21,7 +21,7 @@ use Rattle.format.specs.Container.{Contents, Recorded}
 use Rattle.format.specs.Load.{loadAnswer}
 use Rattle.format.specs.Reads.{Container, loadedFrom, chunkRefusal, chunkPart, totalAnswer, readAnswer, readOutput}
 use Rattle.format.specs.About.{beforeZero, lengthAnswer, prefixAnswer}
-use Rattle.container.specs.Start.{Start, openedStart, after, answersTo, begunBy, Puts}
+use Rattle.container.specs.Start.{Start, openedStart, after, answersTo, countAfter, Puts}
 
 -- what the container of a session says: what the opening was given, the counts and the cells; maxchunks is the greatest count
 abbrev pub contentsOf : Opening → State → Contents
@@ -30,6 +30,7 @@ contentsOf o st =
       big = eqb (o .plan .order) 1;
       version = o .plan .version;
       patch = o .plan .patch;
+      format = o .plan .format;
       blocksize = o .plan .blocksize;
       n = tasks o;
       rank = entry (o .ranks);
@@ -74,7 +75,7 @@ pub record Finished (o : Opening) (image : List ℕ) (table : List ℤ) (qs : Li
       ≡ meta1 (openHead o) (entry (o .ranks)) (entry (o .sizes)) (o .prefix) m (meta2Start (o .plan .blocksize) (tasks o) (entry (o .sizes)) m)
   pub zeros : (at : ℕ) → meta1End (tasks o) ≤ at → at < dataStart (o .plan .blocksize) (tasks o) → getD (closeImage st) at 0 ≡ 0
   pub second : take (meta2Length (tasks o) m) (drop (meta2Start (o .plan .blocksize) (tasks o) (entry (o .sizes)) m) (closeImage st))
-      ≡ meta2 (isBig (openHead o)) (tasks o) m (begunBy (openedStart o image table) qs) (cell (st .table))
+      ≡ meta2 (isBig (openHead o)) (tasks o) m (countAfter (openedStart o image table) qs) (cell (st .table))
   pub placed-at : {task at value : ℕ} → Puts (openedStart o image table) qs task at value → getD (closeImage st) at 0 ≡ value
   pub others : (at : ℕ) → dataStart (o .plan .blocksize) (tasks o) ≤ at
       → (at < meta2Start (o .plan .blocksize) (tasks o) (entry (o .sizes)) m) ⊎ (meta2End (o .plan .blocksize) (tasks o) (entry (o .sizes)) m ≤ at)

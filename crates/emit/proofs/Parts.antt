@@ -32,19 +32,19 @@ store-signed ys at big w n f = ap (λ (z : ℤ). splice ys at (signedDigits big 
 
 -- ---- lengths
 
-pub length-versions : (big : Bool) (version patch : ℤ) → length (versions big version patch) ≡ 20
+pub length-versions : (big : Bool) (version patch : ℤ) (format : ℕ) → length (versions big version patch format) ≡ 20
 unfolding versions
-length-versions big version patch = simp (length-append, length-digits)
+length-versions big version patch format = simp (length-append, length-digits)
 
 pub length-shape : (big : Bool) (blocksize n : ℕ) → length (shape big blocksize n) ≡ 32
 unfolding shape
 length-shape big blocksize n = simp (length-append, length-digits)
 
 length-fixed : (h : Head) (big : Bool) (prefix : List ℕ) → length prefix ≤ prefixLength
-    → length ((versions big (h .version) (h .patch) ++ shape big (h .blocksize) (h .n)) ++ padded prefix) ≡ fixedLength
+    → length ((versions big (h .version) (h .patch) (h .format) ++ shape big (h .blocksize) (h .n)) ++ padded prefix) ≡ fixedLength
 length-fixed h big prefix l =
     simp length-append
-    (rw (length-versions big (h .version) (h .patch), length-shape big (h .blocksize) (h .n)) (omega (arith, simp length-append at (length-padded prefix l))))
+    (rw (length-versions big (h .version) (h .patch) (h .format), length-shape big (h .blocksize) (h .n)) (omega (arith, simp length-append at (length-padded prefix l))))
 
 -- META1 ends before D
 pub opening-fits : (b n : ℕ) → blocksizeRule (pos b) ≡ true → lastAt n + 12 ≤ dataStart b n
@@ -76,7 +76,7 @@ regroup a b c d e f g k l m n z o p q flags = rw (← flags) (simp (append-assoc
 module _ (h : Head) (rank size : ℕ → ℕ) (prefix : List ℕ) where
   -- the fields before the prefix in two groups, the prefix and both lists
   front-parts :
-      (((versions (isBig h) (h .version) (h .patch) ++ shape (isBig h) (h .blocksize) (h .n)) ++ padded prefix)
+      (((versions (isBig h) (h .version) (h .patch) (h .format) ++ shape (isBig h) (h .blocksize) (h .n)) ++ padded prefix)
       ++ joinBelow (h .n) (λ i. signedDigits (isBig h) 8 (pos (rank i))))
       ++ joinBelow (h .n) (λ i. signedDigits (isBig h) 8 (pos (size i)))
       ≡ meta1Front h rank size prefix
@@ -85,7 +85,7 @@ module _ (h : Head) (rank size : ℕ → ℕ) (prefix : List ℕ) where
 
   -- and then zeros from one store: the last two fields and all up to D
   opening-parts : lastAt (h .n) + 12 ≤ dataStart (h .blocksize) (h .n)
-      → ((((versions (isBig h) (h .version) (h .patch) ++ shape (isBig h) (h .blocksize) (h .n)) ++ padded prefix)
+      → ((((versions (isBig h) (h .version) (h .patch) (h .format) ++ shape (isBig h) (h .blocksize) (h .n)) ++ padded prefix)
       ++ joinBelow (h .n) (λ i. signedDigits (isBig h) 8 (pos (rank i))))
       ++ joinBelow (h .n) (λ i. signedDigits (isBig h) 8 (pos (size i))))
       ++ replicate (dataStart (h .blocksize) (h .n) - lastAt (h .n)) 0
@@ -99,7 +99,7 @@ module _ (h : Head) (rank size : ℕ → ℕ) (prefix : List ℕ) where
   -- four stores, each where the last ended, leave it at the start
   pub opening-stored : (xs : List ℕ) {ys₁ ys₂ ys₃ ys₄ : List ℕ} {end : ℕ} → length prefix ≤ prefixLength → blocksizeRule (pos (h .blocksize)) ≡ true
       → dataStart (h .blocksize) (h .n) ≤ length xs → end ≡ dataStart (h .blocksize) (h .n)
-      → ys₁ ≡ splice xs 0 ((versions (isBig h) (h .version) (h .patch) ++ shape (isBig h) (h .blocksize) (h .n)) ++ padded prefix)
+      → ys₁ ≡ splice xs 0 ((versions (isBig h) (h .version) (h .patch) (h .format) ++ shape (isBig h) (h .blocksize) (h .n)) ++ padded prefix)
       → ys₂ ≡ splice ys₁ fixedLength (joinBelow (h .n) (λ i. signedDigits (isBig h) 8 (pos (rank i))))
       → ys₃ ≡ splice ys₂ (fixedLength + 8 * h .n) (joinBelow (h .n) (λ i. signedDigits (isBig h) 8 (pos (size i))))
       → ys₄ ≡ splice ys₃ (lastAt (h .n)) (replicate (end - lastAt (h .n)) 0)

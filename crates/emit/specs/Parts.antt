@@ -5,13 +5,13 @@ use Prim.Native.Nat.{ℕ}
 use lib.IntN.{ℤ, pos}
 use lib.ListN.{replicate}
 use Rattle.endian.specs.Signed.{signedDigits}
-use Rattle.format.specs.Meta1.{magic, orderNumber, formatVersion, fileCount, fileNumber}
+use Rattle.format.specs.Meta1.{magic, orderNumber, fileCount, fileNumber}
 
 -- the magic, the order and the versions
-unfoldable pub versions : Bool → ℤ → ℤ → List ℕ
-versions big version patch =
+unfoldable pub versions : Bool → ℤ → ℤ → ℕ → List ℕ
+versions big version patch format =
     (((magic ++ signedDigits big 4 (pos orderNumber)) ++ signedDigits big 4 version) ++ signedDigits big 4 patch)
-    ++ signedDigits big 4 (pos formatVersion)
+    ++ signedDigits big 4 (pos format)
 
 -- the blocksize, the tasks, the one file and the two flags, 8 bytes of zeros each
 unfoldable pub shape : Bool → ℕ → ℕ → List ℕ

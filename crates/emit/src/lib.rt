@@ -86,16 +86,16 @@ pub fn last_fields(image: &mut [u8], n: u32, big: bool, maxchunks: u32, start: u
 }
 
 // The magic, the order and the versions, from 0 on.
-fn put_versions(image: &mut [u8], big: bool, version: i32, patch: i32)
+fn put_versions(image: &mut [u8], big: bool, version: i32, patch: i32, format: u32)
     requires { ⌜ 20 ≤ length (now image) ⌝ }
-    ensures { λ _. ⌜ now (image .exit) ≡ splice (now (image .entry)) 0 (versions big version patch) ⌝ }
+    ensures { λ _. ⌜ now (image .exit) ≡ splice (now (image .entry)) 0 (versions big version patch format) ⌝ }
 {
     let magic = field::MAGIC;
     memory::copy_in(image, &magic);
     numbers::put_u32(image, field::ORDER_AT, big, field::ORDER);
     numbers::put_i32(image, field::VERSION_AT, big, version);
     numbers::put_i32(image, field::PATCH_AT, big, patch);
-    numbers::put_u32(image, field::FORMAT_AT, big, field::FORMAT);
+    numbers::put_u32(image, field::FORMAT_AT, big, format);
 }
 
 // The blocksize, the tasks, the one file and two flags of zeros, from 20 on.
@@ -122,9 +122,9 @@ fn put_prefix(image: &mut [u8], prefix: &[u8])
 // All of META1 before the ranks.
 fn put_fixed(image: &mut [u8], h: Head, big: bool, prefix: &[u8])
     requires { ⌜ (length (now prefix) ≤ prefixLength) × (fixedLength ≤ length (now image)) ⌝ }
-    ensures { λ _. ⌜ now (image .exit) ≡ splice (now (image .entry)) 0 ((versions big (h .version) (h .patch) ++ shape big (h .blocksize) (h .n)) ++ padded (now (prefix .entry))) ⌝ }
+    ensures { λ _. ⌜ now (image .exit) ≡ splice (now (image .entry)) 0 ((versions big (h .version) (h .patch) (h .format) ++ shape big (h .blocksize) (h .n)) ++ padded (now (prefix .entry))) ⌝ }
 {
-    put_versions(image, big, h.version, h.patch);
+    put_versions(image, big, h.version, h.patch, h.format);
     put_shape(image, big, h.blocksize, h.n);
     put_prefix(image, prefix);
 }

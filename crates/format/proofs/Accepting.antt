@@ -15,7 +15,7 @@ use Rattle.endian.specs.Signed.{signBit, natural}
 use Rattle.lists.proofs.Below.{and-left, and-right, or-left, or-right, or-both, all-at, all-of}
 use Rattle.endian.proofs.Number.{one-order}
 use Rattle.endian.proofs.Signed.{InRange, signed-pos, within-one, within-natural, within-holds, within-over}
-use Rattle.format.specs.Limits.{maxTasks, minBlocksize, maxBlocksize, maxRank, maxSize, maxBlocks, blocksizeRule, tasksRule, ranksRule, sizesRule, maxchunksRule}
+use Rattle.format.specs.Limits.{maxTasks, minBlocksize, maxBlocksize, maxRank, maxSize, maxBlocks, plainFormat, idleFormat, formatRule, blocksizeRule, tasksRule, ranksRule, sizesRule, maxchunksRule}
 use Rattle.format.specs.Layout.{meta1End, meta2Start}
 use Rattle.format.proofs.Chunks.{meta1-before-data}
 use Rattle.format.specs.declared.head.Head.{Head}
@@ -25,6 +25,7 @@ use Rattle.format.specs.Meta2
 use Rattle.format.specs.Record.{isBig, holds, meta2At, endAt}
 use Rattle.format.specs.Judge.{is, magicIn, bigIn, orderedIn, tasksIn, maxchunksIn, headIn, sizeIn, meta2In, startTests, fieldTests, fixedTests, listTests, lastTests, restTests, meta1Tests, countIn, meta2Tests}
 use Rattle.format.proofs.Refusals.{Numbered, none-fails, all-pass}
+use Rattle.format.proofs.Formats.{format-natural}
 use Rattle.format.proofs.Rules.{blocksize-natural, tasks-natural, ranks-within, sizes-within}
 
 is-refl : (v : ℕ) → is v (pos v) ≡ true
@@ -36,7 +37,7 @@ is-refl v = within-holds v v v (le-refl v) (le-refl v)
 pub record Meta1Holds (xs : List ℕ) (len : ℕ) : Type 0 where
   pub magic-is : magicIn xs ≡ true
   pub order-is : Meta1.orderField (bigIn xs) xs ≡ pos Meta1.orderNumber
-  pub format-is : Meta1.formatField (bigIn xs) xs ≡ pos Meta1.formatVersion
+  pub format : formatRule (Meta1.formatField (bigIn xs) xs) ≡ true
   pub blocksize : blocksizeRule (Meta1.blocksizeField (bigIn xs) xs) ≡ true
   pub tasks : tasksRule (Meta1.tasksField (bigIn xs) xs) ≡ true
   pub files-are : Meta1.filesField (bigIn xs) xs ≡ pos Meta1.fileCount
@@ -109,7 +110,7 @@ module _ (xs : List ℕ) where
         record {
           magic-is = not-false _ (or-right (ltb len (length Meta1.magic)) _ mark);
           order-is = ordered (not-false _ (or-right (ltb len 8) _ order));
-          format-is = within-one _ _ (not-false _ format);
+          format = not-false _ format;
           blocksize = not-false _ blocksize;
           tasks = not-false _ tasks;
           files-are = within-one _ _ (and-left _ (is Meta1.fileNumber (Meta1.fileNumberField (bigIn xs) xs)) (not-false _ files));
@@ -137,7 +138,7 @@ module _ (xs : List ℕ) where
         let mark = or-both (le-ltb len (length Meta1.magic) (omega arith)) (ap not (h .magic-is)) in
         let order = or-both (le-ltb len 8 (omega arith)) (ap not (ordered-holds (h .order-is))) in
         let short = le-ltb len Meta1.fixedLength (omega arith) in
-        let format = ap (λ (z : ℤ). not (is Meta1.formatVersion z)) (h .format-is) in
+        let format = ap not (h .format) in
         let blocksize = ap not (h .blocksize) in
         let tasks = ap not (h .tasks) in
         let files = ap₂ (λ (y z : ℤ). not (is Meta1.fileCount y && is Meta1.fileNumber z)) (h .files-are) (h .file-number-is) in
@@ -153,6 +154,9 @@ module _ (xs : List ℕ) where
 
 -- the fields are numbers in their ranges
 module _ {xs : List ℕ} {len : ℕ} (h : Meta1Holds xs len) where
+  pub format-in : InRange plainFormat idleFormat (Meta1.formatField (bigIn xs) xs)
+  format-in = format-natural _ (h .format)
+
   pub block-in : InRange minBlocksize maxBlocksize (Meta1.blocksizeField (bigIn xs) xs)
   block-in = blocksize-natural _ (h .blocksize)
 
@@ -173,7 +177,7 @@ module _ {xs : List ℕ} {len : ℕ} (h : Meta1Holds xs len) where
 
 module _ (h : Head) (size : ℕ → ℕ) (maxchunks : ℕ) (part : List ℕ) where
   pub record Meta2Holds : Type 0 where
-    pub counts : Meta2.countsRule (h .n) maxchunks (Meta2.countField (isBig h) part) ≡ true
+    pub counts : Meta2.countsRule (h .format) (h .n) maxchunks (Meta2.countField (isBig h) part) ≡ true
     pub values : Meta2.valuesRule (h .n) maxchunks (holds h size) (countIn h part) (Meta2.valueField (isBig h) part (h .n)) ≡ true
 
   meta2-numbered : Numbered (meta2Tests h size maxchunks part)
@@ -186,7 +190,7 @@ module _ (h : Head) (size : ℕ → ℕ) (maxchunks : ℕ) (part : List ℕ) whe
       let both = not-false _ (none-fails (meta2Tests h size maxchunks part) meta2-numbered e .0) in
       record {
         counts = and-left _ (Meta2.valuesRule (h .n) maxchunks (holds h size) (countIn h part) (Meta2.valueField (isBig h) part (h .n))) both;
-        values = and-right (Meta2.countsRule (h .n) maxchunks (Meta2.countField (isBig h) part)) _ both;
+        values = and-right (Meta2.countsRule (h .format) (h .n) maxchunks (Meta2.countField (isBig h) part)) _ both;
       }
 
   pub meta2-passes : Meta2Holds → firstFailing (meta2Tests h size maxchunks part) ≡ 0

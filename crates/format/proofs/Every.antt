@@ -24,6 +24,7 @@ use Rattle.format.specs.Judge.{bigIn, tasksIn, maxchunksIn, headIn, rank
 use Rattle.format.proofs.Refusals.{when-accepted}
 use Rattle.format.proofs.Rules.{counts-hold, values-hold, values-agree, valueIndex-lt}
 use Rattle.format.proofs.Stripes.{length-lists, lists-agree, rank-at, size-at, count-at, rank-made, size-made, count-made, rank-past, size-past, count-past}
+use Rattle.format.proofs.Formats.{format-kept, idle-least}
 use Rattle.format.proofs.Record.{isBig-order, holds-agree, meta2At-agree, endAt-agree}
 use Rattle.format.proofs.Accepting.{Meta1Holds, magic-holds, order-forced, Meta2Holds}
 use Rattle.format.specs.declared.loaded.Loaded.{Loaded}
@@ -35,18 +36,19 @@ use Rattle.format.proofs.LoadTests.{load-holds, load-passes}
 use Rattle.format.proofs.InBounds.{block-kept, tasks-kept, ranks-kept, sizes-kept}
 
 abbrev pub headSaid : Contents → Head
-headSaid s = headOf (orderOf (s .big)) (s .version) (s .patch) (s .blocksize) (s .n)
+headSaid s = headOf (orderOf (s .big)) (s .version) (s .patch) (s .format) (s .blocksize) (s .n)
 
 abbrev pub listsSaid : Contents → List ℕ
 listsSaid s = listsOf (s .n) (s .rank) (s .size) (s .count)
 
 -- a head that was made, number by number
-pub head-says : {h : Head} {order : ℕ} {version patch : ℤ} {blocksize n : ℕ} → h ≡ headOf order version patch blocksize n
-    → HeadSays h order version patch blocksize n
+pub head-says : {h : Head} {order : ℕ} {version patch : ℤ} {format blocksize n : ℕ} → h ≡ headOf order version patch format blocksize n
+    → HeadSays h order version patch format blocksize n
 head-says e = record {
   order-is = ap (λ (h : Head). h .order) e;
   version-is = ap (λ (h : Head). h .version) e;
   patch-is = ap (λ (h : Head). h .patch) e;
+  format-is = ap (λ (h : Head). h .format) e;
   blocksize-is = ap (λ (h : Head). h .blocksize) e;
   tasks-are = ap (λ (h : Head). h .n) e;
 }
@@ -78,11 +80,11 @@ module _ (image : List ℕ) (s : Contents) (one : HasMeta1 image s) (two : HasMe
   unfolding maxchunksRule
   maxchunks-kept = within-holds 0 maxBlocks (s .maxchunks) zero-le (one .maxchunks-range)
 
-  pub counts-kept : (f : ℕ → ℤ) → ((i : ℕ) → i < s .n → f i ≡ pos (s .count i)) → Meta2.countsRule (s .n) (s .maxchunks) f ≡ true
+  pub counts-kept : (f : ℕ → ℤ) → ((i : ℕ) → i < s .n → f i ≡ pos (s .count i)) → Meta2.countsRule (s .format) (s .n) (s .maxchunks) f ≡ true
   counts-kept f are =
       let (i, l, top) = two .greatest in
-      counts-hold (s .n) (s .maxchunks) f
-      (λ i l. rw (are i l) (within-holds 0 (s .maxchunks) (s .count i) zero-le (two .counts-range i l)))
+      counts-hold (s .format) (s .n) (s .maxchunks) f
+      (λ i l. rw (are i l) (within-holds _ (s .maxchunks) (s .count i) (idle-least (λ four. two .counts-idle four i l)) (two .counts-range i l)))
       i l (ap natural (are i l) ∙ top)
 
   pub values-kept : (count : ℕ → ℕ) (f : ℕ → ℤ) → ((i : ℕ) → i < s .n → count i ≡ s .count i)
@@ -126,6 +128,7 @@ module _ (image : List ℕ) (s : Contents) (one : HasMeta1 image s) (two : HasMe
     order = orderOf (big-is i);
     version = (ap (λ (b : Bool). Meta1.versionField b image) big-is ∙ one .version-is) i;
     patch = (ap (λ (b : Bool). Meta1.patchField b image) big-is ∙ one .patch-is) i;
+    format = ap natural (ap (λ (b : Bool). Meta1.formatField b image) big-is ∙ one .format-is) i;
     blocksize = ap natural (ap (λ (b : Bool). Meta1.blocksizeField b image) big-is ∙ one .blocksize-is) i;
     n = tasks-is i;
   }
@@ -152,7 +155,7 @@ module _ (image : List ℕ) (s : Contents) (one : HasMeta1 image s) (two : HasMe
   first-holds = record {
     magic-is = magic-holds image (one .magic-is);
     order-is = rw big-is (one .order-is);
-    format-is = rw big-is (one .format-is);
+    format = rw (big-is, one .format-is) (format-kept (one .format-known));
     blocksize = rw (big-is, one .blocksize-is) (block-kept (one .bounds));
     tasks = rw (big-is, one .tasks-are) (tasks-kept (one .bounds));
     files-are = rw big-is (one .files-are);

@@ -12,11 +12,12 @@ use Rattle.endian.specs.Number.{numberAt}
 use Rattle.endian.specs.Signed.{signed, natural}
 use Rattle.lists.proofs.Below.{and-right}
 use Rattle.endian.proofs.Signed.{within-signed, within-facts, natural-signed}
-use Rattle.format.specs.Limits.{maxTasks, minBlocksize, maxBlocksize, maxBlocks, tasksRule, powerOfTwo, blocksizeRule, maxchunksRule}
+use Rattle.format.specs.Limits.{maxTasks, minBlocksize, maxBlocksize, maxBlocks, formatRule, tasksRule, powerOfTwo, blocksizeRule, maxchunksRule}
 use Rattle.format.specs.Layout.{meta1End}
 use Rattle.format.specs.Refusals.{Test, test, firstFailing}
-use Rattle.format.specs.Meta1.{formatVersion, fileCount, fileNumber, formatField, filesField, fileNumberField}
+use Rattle.format.specs.Meta1.{fileCount, fileNumber, filesField, fileNumberField}
 use Rattle.format.specs.Judge.{is, bigIn, tasksIn, fieldTests}
+use Rattle.format.proofs.Formats.{format-number}
 
 -- a field has one value
 pub is-number : (v h n : ℕ) → v < 2 ^ h → is v (signed h n) ≡ eqb n v
@@ -66,23 +67,23 @@ pub passed-agree : (t : Bool) (number x y : ℕ) → (t ≡ true → x ≡ y) �
 passed-agree true number x y h = h refl
 passed-agree false number x y h = refl
 
--- the tests of the fields before the lists, of unsigned readings: b of blocksize and n of ntasks
-abbrev pub unsignedTests : List ℕ → ℕ → Bool → ℕ → ℕ → List Test
-unsignedTests xs len big b n =
-    test 4 (not (is formatVersion (formatField big xs)))
+-- the tests of the fields before the lists, of unsigned readings: v of fileformat_version, b of blocksize and n of ntasks
+abbrev pub unsignedTests : List ℕ → ℕ → Bool → ℕ → ℕ → ℕ → List Test
+unsignedTests xs len big v b n =
+    test 4 (not (formatRule (pos v)))
     ∷ test 5 (not (blocksizeRule (pos b)))
     ∷ test 6 (not (tasksRule (pos n)))
     ∷ test 7 (not (is fileCount (filesField big xs) && is fileNumber (fileNumberField big xs)))
     ∷ test 3 (ltb len (meta1End n))
     ∷ []
 
-pub fields-unsigned : (xs : List ℕ) (len : ℕ) (big : Bool) (b n : ℕ) → big ≡ bigIn xs → b ≡ numberAt big 4 xs 20 → n ≡ numberAt big 4 xs 24
-    → firstFailing (fieldTests xs len) ≡ firstFailing (unsignedTests xs len big b n)
+pub fields-unsigned : (xs : List ℕ) (len : ℕ) (big : Bool) (v b n : ℕ) → big ≡ bigIn xs → v ≡ numberAt big 4 xs 16 → b ≡ numberAt big 4 xs 20
+    → n ≡ numberAt big 4 xs 24 → firstFailing (fieldTests xs len) ≡ firstFailing (unsignedTests xs len big v b n)
 unfolding firstFailing fieldTests tasksIn
-fields-unsigned xs len big b n same at20 at24 =
-    rw (sym same, sym at20, sym at24, blocksize-number b, tasks-number n)
+fields-unsigned xs len big v b n same at16 at20 at24 =
+    rw (sym same, sym at16, sym at20, sym at24, format-number v, blocksize-number b, tasks-number n)
     (ap
-    (λ (rest : ℕ). cond (not (is formatVersion (formatField big xs))) 4 (cond (not (blocksizeRule (pos b))) 5 rest))
+    (λ (rest : ℕ). cond (not (formatRule (pos v))) 4 (cond (not (blocksizeRule (pos b))) 5 rest))
     (passed-agree (tasksRule (pos n)) 6 _ _
     (λ e.
     ap

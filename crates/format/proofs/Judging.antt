@@ -12,7 +12,7 @@ use lib.ListN.{length}
 use borrow.Author.Tests.{ltb-false, le-ltb, leb-true, eqb-true, eq-eqb, not-false}
 use Rattle.lists.proofs.Below.{and-left, and-right, or-left, or-right, or-both}
 use Rattle.endian.proofs.Signed.{within-natural, within-holds}
-use Rattle.format.specs.Limits.{maxBlocks, blocksizeRule, tasksRule, ranksRule, sizesRule, maxchunksRule}
+use Rattle.format.specs.Limits.{maxBlocks, formatRule, blocksizeRule, tasksRule, ranksRule, sizesRule, maxchunksRule}
 use Rattle.format.specs.Layout.{meta2Start, meta2Length, meta2End}
 use Rattle.format.specs.declared.head.Head.{Head}
 use Rattle.format.specs.Refusals.{Test, firstFailing}
@@ -28,6 +28,7 @@ use Rattle.format.specs.Reads.{Container, loadedTests}
 use Rattle.format.proofs.LoadedRecords.{loaded-counts, loaded-holds}
 use Rattle.format.specs.Accepted.{IsOrder, LongEnough, GoodHead, GoodSession, GoodLoaded, GoodCells, Judged, SessionJudged, LoadedJudged}
 use Rattle.lists.specs.Logic.{Not, Exactly}
+use Rattle.format.proofs.Formats.{format-known, format-kept, least-idle, idle-least}
 use Rattle.format.proofs.InBounds.{in-bounds, block-kept, tasks-kept, ranks-kept, sizes-kept}
 
 -- ---- the facts, and the tests of them
@@ -49,13 +50,16 @@ module _ (h : Head) (lists : List ℕ) where
       let four = and-left _ (sizesRule (h .n) (λ i. pos (sizeOf lists i))) e in
       let three = and-left _ (ranksRule (h .n) (λ i. pos (rankOf lists i))) four in
       let two = and-left _ (tasksRule (pos (h .n))) three in
+      let one = and-left _ (blocksizeRule (pos (h .blocksize))) two in
+      let first : Bool = isOrder (h .order) && formatRule (pos (h .format)) in
       record {
-        order = order-is (h .order) (and-left _ (blocksizeRule (pos (h .blocksize))) two);
+        order = order-is (h .order) (and-left _ (formatRule (pos (h .format))) one);
+        format = format-known (and-right (isOrder (h .order)) _ one);
         bounds =
-            in-bounds (and-right (isOrder (h .order)) _ two) (and-right (isOrder (h .order) && blocksizeRule (pos (h .blocksize))) _ three)
-            (and-right (isOrder (h .order) && blocksizeRule (pos (h .blocksize)) && tasksRule (pos (h .n))) _ four)
+            in-bounds (and-right first _ two) (and-right (first && blocksizeRule (pos (h .blocksize))) _ three)
+            (and-right (first && blocksizeRule (pos (h .blocksize)) && tasksRule (pos (h .n))) _ four)
             (and-right
-            (isOrder (h .order)
+            (first
             && blocksizeRule (pos (h .blocksize))
             && tasksRule (pos (h .n))
             && ranksRule (h .n) (λ i. pos (rankOf lists i)))
@@ -66,7 +70,7 @@ module _ (h : Head) (lists : List ℕ) where
   unfolding headSound
   head-sound g =
       let b = g .bounds in
-      rw (order-holds (h .order) (g .order), block-kept b, tasks-kept b, ranks-kept b _ (λ i l. refl)) (sizes-kept b _ (λ i l. refl))
+      rw (order-holds (h .order) (g .order), format-kept (g .format), block-kept b, tasks-kept b, ranks-kept b _ (λ i l. refl)) (sizes-kept b _ (λ i l. refl))
 
   -- 18 and 19, for m chunks
   module _ (m : ℕ) (image : List ℕ) (table : List ℤ) where
@@ -114,10 +118,16 @@ session-exactly s lists = (
   λ e.
       let (not-closed, sound) = mark-test (s .closed) (sessionSound s lists) e in
       let (some, (head, few, counts)) = session-holds s lists sound in
-      record { not-closed = not-closed; head = head-good (s .head) lists head; planned-range = (some, few); counts-range = counts },
+      record {
+        not-closed = not-closed;
+        head = head-good (s .head) lists head;
+        planned-range = (some, few);
+        counts-range = λ i l. counts i l .1;
+        counts-idle = λ four i l. least-idle (counts i l .0) four;
+      },
   λ g.
       mark-passes (s .closed) (sessionSound s lists) (g .not-closed)
-      (session-sound s lists (g .planned-range .0) (head-sound (s .head) lists (g .head), g .planned-range .1, g .counts-range)),
+      (session-sound s lists (g .planned-range .0) (head-sound (s .head) lists (g .head), g .planned-range .1, λ i l. (idle-least (λ four. g .counts-idle four i l), g .counts-range i l))),
 )
 
 module _ (l : Loaded) (lists : List ℕ) where
@@ -126,8 +136,8 @@ module _ (l : Loaded) (lists : List ℕ) where
   loaded-sound g =
       let (i, below, top) = g .greatest in
       rw (head-sound (l .head) lists (g .head), within-holds 0 maxBlocks (l .maxchunks) zero-le (g .maxchunks-range))
-      (counts-hold (l .head .n) (l .maxchunks) (λ i. pos (countOf lists i))
-      (λ i below. within-holds 0 (l .maxchunks) (countOf lists i) zero-le (g .counts-range i below)) i below top)
+      (counts-hold (l .head .format) (l .head .n) (l .maxchunks) (λ i. pos (countOf lists i))
+      (λ i below. within-holds _ (l .maxchunks) (countOf lists i) (idle-least (λ four. g .counts-idle four i below)) (g .counts-range i below)) i below top)
 
   loaded-exactly : Exactly ((not (eqb (l .closed) 0) || not (loadedSound l lists)) ≡ false) (GoodLoaded l lists)
   loaded-exactly = (
@@ -139,8 +149,9 @@ module _ (l : Loaded) (lists : List ℕ) where
           not-closed = not-closed;
           head = head;
           maxchunks-range = few;
-          counts-range = counts;
-          greatest = counts-greatest (l .head .n) (l .maxchunks) _ (loaded-counts l lists sound) (head .bounds .tasks-range .0);
+          counts-range = λ i b. counts i b .1;
+          counts-idle = λ four i b. least-idle (counts i b .0) four;
+          greatest = counts-greatest (l .head .format) (l .head .n) (l .maxchunks) _ (loaded-counts l lists sound) (head .bounds .tasks-range .0);
         },
     λ g. mark-passes (l .closed) (loadedSound l lists) (g .not-closed) (loaded-sound g),
   )

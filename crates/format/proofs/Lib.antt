@@ -8,12 +8,14 @@ pub mod Filled
 pub mod Stripes
 pub mod Unsigned
 pub mod Rules
+pub mod Formats
 pub mod Record
 pub mod Accepting
 pub mod Passing
 pub mod Stored
 pub mod About
 pub mod Sessions
+pub mod Blank
 pub mod Opening
 pub mod Outcomes
 pub mod Writable

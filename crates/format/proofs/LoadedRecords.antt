@@ -19,17 +19,17 @@ use Rattle.format.specs.Loaded.{loadedSound}
 use Rattle.format.specs.Reads.{Container, loadedTests}
 
 module _ (l : Loaded) (lists : List ℕ) (e : loadedSound l lists ≡ true) where
-  pub loaded-counts : countsRule (l .head .n) (l .maxchunks) (λ i. pos (countOf lists i)) ≡ true
+  pub loaded-counts : countsRule (l .head .format) (l .head .n) (l .maxchunks) (λ i. pos (countOf lists i)) ≡ true
   unfolding loadedSound
   loaded-counts = and-right (headSound (l .head) lists && maxchunksRule (pos (l .maxchunks))) _ e
 
   pub loaded-holds : SoundNumbers (l .head) lists (l .maxchunks)
   unfolding loadedSound maxchunksRule
   loaded-holds =
-      let front = and-left _ (countsRule (l .head .n) (l .maxchunks) (λ i. pos (countOf lists i))) e in (
+      let front = and-left _ (countsRule (l .head .format) (l .head .n) (l .maxchunks) (λ i. pos (countOf lists i))) e in (
         and-left _ (maxchunksRule (pos (l .maxchunks))) front,
         within-facts 0 maxBlocks (l .maxchunks) (and-right (headSound (l .head) lists) _ front) .1,
-        λ i b. within-facts 0 (l .maxchunks) _ (counts-within _ _ _ loaded-counts i b) .1,
+        λ i b. within-facts _ (l .maxchunks) _ (counts-within _ _ _ _ loaded-counts i b),
       )
 
 module _ (c : Container) where

@@ -16,8 +16,9 @@ use Rattle.format.specs.Meta2
 use Rattle.format.specs.Record.{isBig, holds, meta2At, endAt}
 use Rattle.format.specs.Judge.{bigIn, tasksIn, maxchunksIn, headIn, rankIn, sizeIn, meta2In, countIn}
 use Rattle.format.proofs.Rules.{ranks-differ, counts-within, counts-greatest, values-used, values-unused}
+use Rattle.format.proofs.Formats.{format-known, least-idle}
 use Rattle.format.proofs.Record.{isBig-order}
-use Rattle.format.proofs.Accepting.{Meta1Holds, magic-there, Meta2Holds, block-in, tasks-in, rank-in, size-in, maxchunks-in}
+use Rattle.format.proofs.Accepting.{Meta1Holds, magic-there, Meta2Holds, format-in, block-in, tasks-in, rank-in, size-in, maxchunks-in}
 use Rattle.format.specs.Container.{Contents, InBounds, HasMeta1, HasMeta2, IsContainer, meta2Said}
 use Rattle.format.specs.Load.{meta2Bytes, loadRefusal}
 use Rattle.format.proofs.LoadTests.{load-holds}
@@ -28,6 +29,7 @@ contentsIn image = record {
   big = bigIn image;
   version = Meta1.versionField (bigIn image) image;
   patch = Meta1.patchField (bigIn image) image;
+  format = natural (Meta1.formatField (bigIn image) image);
   blocksize = natural (Meta1.blocksizeField (bigIn image) image);
   n = tasksIn image;
   rank = rankIn image;
@@ -65,7 +67,8 @@ module _ (image : List ℕ) (first : Meta1Holds image (length image)) where
         order-is = first .order-is;
         version-is = refl;
         patch-is = refl;
-        format-is = first .format-is;
+        format-is = format-in first .0;
+        format-known = format-known (rw (format-in first .0) at (first .format));
         blocksize-is = block-in first .0;
         tasks-are = tasks-in first .0;
         files-are = first .files-are;
@@ -87,12 +90,13 @@ module _ (image : List ℕ) (first : Meta1Holds image (length image)) where
     unfolding meta2Bytes meta2In meta2At headIn
     part-in = refl
 
-    counts-in : Meta2.countsRule (tasksIn image) (maxchunksIn image) (Meta2.countField (bigIn image) (meta2Bytes image)) ≡ true
+    counts-in : Meta2.countsRule (contentsIn image .format) (tasksIn image) (maxchunksIn image) (Meta2.countField (bigIn image) (meta2Bytes image)) ≡ true
     unfolding headIn
     counts-in = rw (isBig-order (bigIn image)) at (second .counts)
 
-    count-in : (i : ℕ) → i < tasksIn image → InRange 0 (maxchunksIn image) (Meta2.countField (bigIn image) (meta2Bytes image) i)
-    count-in i l = within-natural 0 _ _ (counts-within _ _ (Meta2.countField (bigIn image) (meta2Bytes image)) counts-in i l)
+    count-in : (i : ℕ) → i < tasksIn image
+        → InRange (Meta2.leastCount (contentsIn image .format)) (maxchunksIn image) (Meta2.countField (bigIn image) (meta2Bytes image) i)
+    count-in i l = within-natural _ _ _ (counts-within _ _ _ (Meta2.countField (bigIn image) (meta2Bytes image)) counts-in i l)
 
     big-in : isBig (headIn image) ≡ bigIn image
     unfolding headIn
@@ -121,7 +125,8 @@ module _ (image : List ℕ) (first : Meta1Holds image (length image)) where
       fits = rw end-in at (first .fits);
       counts-are = λ i l. rw part-in (count-in i l .0);
       counts-range = λ i l. count-in i l .2;
-      greatest = counts-greatest _ _ (Meta2.countField (bigIn image) (meta2Bytes image)) counts-in (tasks-in first .1);
+      counts-idle = λ four i l. least-idle (count-in i l .1) four;
+      greatest = counts-greatest _ _ _ (Meta2.countField (bigIn image) (meta2Bytes image)) counts-in (tasks-in first .1);
       used-first = λ i k l u. rw part-in (used-in i k l u .0);
       used-fit = λ i k l u. used-in i k l u .2;
       others-unused = λ i k l u h. rw part-in (values-unused _ _ _ _ _ values-in i k l h u);

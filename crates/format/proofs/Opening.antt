@@ -7,35 +7,37 @@ use Prim.Native.Nat.{ℕ, _*_, _≤_, _<_}
 use native.Mathlib.Omega.{arith}
 use lib.Dec.{ltb}
 use lib.IntN.{ℤ, pos}
-use lib.ListN.{length, replicate}
+use lib.ListN.{length}
 use borrow.Author.Tests.{lt-ltb, le-ltb, ltb-false, eqb-true, not-false}
 use Rattle.lists.specs.Splice.{splice}
 use Rattle.lists.proofs.Below.{or-left, or-right}
 use Rattle.endian.proofs.Signed.{within-facts}
-use Rattle.format.specs.Limits.{maxTasks, maxBlocks, Sound, blocksizeRule, tasksRule, ranksRule, sizesRule, plannedRule}
+use Rattle.format.specs.Limits.{maxTasks, maxBlocks, Sound, formatRule, blocksizeRule, tasksRule, ranksRule, sizesRule, plannedRule}
 use Rattle.format.specs.Layout.{dataStart, meta2Start, meta2End}
 use Rattle.format.specs.Refusals.{Test, test, firstFailing}
 use Rattle.format.specs.Meta1.{prefixLength, openingBytes}
-use Rattle.format.specs.Meta2.{unused}
+use Rattle.format.specs.Meta2.{leastCount}
 use Rattle.format.specs.Record.{entry, rankOf, sizeOf, noLists, isOrder, headSound, tooShort, endAt}
 use Rattle.format.proofs.Refusals.{Numbered, first-passes, first-fails, both-pass, none-fails, when-accepted, when-refused, number-is}
 use Rattle.format.proofs.Fields.{tasks-facts}
 use Rattle.format.proofs.Filled.{filled-list}
 use Rattle.format.proofs.Stripes.{ranks-made, sizes-made}
 use Rattle.format.specs.declared.session.Needed.{Needed}
-use Rattle.format.specs.Open.{Opening, tasks, shapeTests, numberTests, planTests, needsAnswer, openRefusal, openHead, openSession, openLists, opens, openAnswer, openImage, openTable}
+use Rattle.format.specs.Open.{Opening, tasks, shapeTests, numberTests, planTests, needsAnswer, openRefusal, openHead, openSession, openLists, blankCells, opens, openAnswer, openImage, openTable}
 use Rattle.format.specs.Session.{noSession}
 
 -- the first of them alone: as many sizes as ranks
-pub shape-listed : (order blocksize ranks sizes prefix : ℕ) → firstFailing (shapeTests order blocksize ranks sizes prefix) ≡ 0 → ranks ≡ sizes
+pub shape-listed : (order format blocksize ranks sizes prefix : ℕ) → firstFailing (shapeTests order format blocksize ranks sizes prefix) ≡ 0
+    → ranks ≡ sizes
 unfolding shapeTests
-shape-listed order blocksize ranks sizes prefix e =
-    let (first, (block, (count, rest))) = none-fails (shapeTests order blocksize ranks sizes prefix) (omega arith) e in
+shape-listed order format blocksize ranks sizes prefix e =
+    let (first, (known, (block, (count, rest)))) = none-fails (shapeTests order format blocksize ranks sizes prefix) (omega arith) e in
     eqb-true _ _ (not-false _ (or-right (not (tasksRule (pos ranks))) _ count))
 
 -- what the tests of the plan ask of an opening's arguments
 pub record PlanHolds (o : Opening) : Type 0 where
   pub order : isOrder (o .plan .order) ≡ true
+  pub format : formatRule (pos (o .plan .format)) ≡ true
   pub block : blocksizeRule (pos (o .plan .blocksize)) ≡ true
   pub task-rule : tasksRule (pos (tasks o)) ≡ true
   pub few-tasks : tasks o ≤ maxTasks
@@ -60,11 +62,12 @@ module _ (o : Opening) where
   pub plan-holds : firstFailing (planTests o) ≡ 0 → PlanHolds o
   unfolding planTests shapeTests numberTests plannedRule
   plan-holds e =
-      let (order, (block, (count, (prefix, (rank, (size, (planned, end))))))) = none-fails (planTests o) plan-numbered e in
+      let (order, (format, (block, (count, (prefix, (rank, (size, (planned, end)))))))) = none-fails (planTests o) plan-numbered e in
       let rule = not-false _ (or-left (not (tasksRule (pos (tasks o)))) _ count) in
       let range = within-facts 1 maxBlocks (o .plan .planned) (not-false _ planned) in
       record {
         order = not-false _ order;
+        format = not-false _ format;
         block = not-false _ block;
         task-rule = rule;
         few-tasks = tasks-facts (tasks o) rule .1;
@@ -80,11 +83,11 @@ module _ (o : Opening) where
   module _ (p : PlanHolds o) where
     pub ranks-kept : rankOf (openLists o) ≡ entry (o .ranks)
     unfolding openLists
-    ranks-kept = ap entry (ranks-made (tasks o) _ (entry (o .sizes)) (λ i. 0)) ∙ filled-list (tasks o) (o .ranks) refl (p .few-tasks)
+    ranks-kept = ap entry (ranks-made (tasks o) _ (entry (o .sizes)) (λ i. leastCount (o .plan .format))) ∙ filled-list (tasks o) (o .ranks) refl (p .few-tasks)
 
     pub sizes-kept : sizeOf (openLists o) ≡ entry (o .sizes)
     unfolding openLists
-    sizes-kept = ap entry (sizes-made (tasks o) (entry (o .ranks)) _ (λ i. 0)) ∙ filled-list (tasks o) (o .sizes) (p .listed) (p .few-tasks)
+    sizes-kept = ap entry (sizes-made (tasks o) (entry (o .ranks)) _ (λ i. leastCount (o .plan .format))) ∙ filled-list (tasks o) (o .sizes) (p .listed) (p .few-tasks)
 
     ranks-sound : ranksRule (tasks o) (λ i. pos (rankOf (openLists o) i)) ≡ true
     ranks-sound = subst (λ (r : ℕ → ℕ). ranksRule (tasks o) (λ i. pos (r i)) ≡ true) (sym ranks-kept) (p .ranked)
@@ -94,7 +97,7 @@ module _ (o : Opening) where
 
     pub opened-sound : headSound (openHead o) (openLists o) ≡ true
     unfolding headSound openHead
-    opened-sound = rw (p .order, p .block, p .task-rule, ranks-sound, sizes-sound)
+    opened-sound = rw (p .order, p .format, p .block, p .task-rule, ranks-sound, sizes-sound)
 
   -- the numbers that the layout's functions ask for
   pub plan-sound : PlanHolds o → Sound (o .plan .blocksize) (tasks o) (o .sizes)
@@ -124,7 +127,7 @@ module _ (o : Opening) where
 
   -- the plan's number, by the tests that led there
   abbrev shape : List Test
-  shape = shapeTests (o .plan .order) (o .plan .blocksize) (tasks o) (length (o .sizes)) (length (o .prefix))
+  shape = shapeTests (o .plan .order) (o .plan .format) (o .plan .blocksize) (tasks o) (length (o .sizes)) (length (o .prefix))
 
   abbrev number : List Test
   number = numberTests (o .ranks) (o .sizes) (o .plan .planned)
@@ -196,7 +199,7 @@ module _ (o : Opening) where
     unfolding openImage opens
     opened-image = rw accepted
 
-    pub opened-table : openTable o image table ≡ splice table 0 (replicate (tasks o * o .plan .planned) unused)
+    pub opened-table : openTable o image table ≡ splice table 0 (blankCells (leastCount (o .plan .format)) (tasks o) (o .plan .planned))
     unfolding openTable opens
     opened-table = rw accepted
 

@@ -18,6 +18,7 @@ use Rattle.format.specs.declared.session.Needed.{Needed}
 use Rattle.format.specs.Open.{Opening, tasks, shapeTests, numberTests, planTests, needsAnswer, openRefusal, openHead}
 use Rattle.format.proofs.Opening.{PlanHolds, opening-holds, needs-lengths, open-enough}
 use Rattle.format.specs.Accepted.{bytesFor, GoodPlan, GoodOpening}
+use Rattle.format.proofs.Formats.{format-known, format-kept}
 use Rattle.format.proofs.InBounds.{in-bounds, block-kept, tasks-kept, ranks-kept, sizes-kept}
 use Rattle.format.proofs.Judging.{order-is, order-holds}
 
@@ -25,6 +26,7 @@ module _ (o : Opening) where
   pub plan-good : PlanHolds o → GoodPlan o
   plan-good p = record {
     order = order-is (o .plan .order) (p .order);
+    format = format-known (p .format);
     bounds = in-bounds (p .block) (p .task-rule) (p .ranked) (p .sized);
     one-length = p .listed;
     prefix-fits = p .prefix-short;
@@ -41,7 +43,8 @@ module _ (o : Opening) where
       let ranks = ap not (ranks-kept b _ (λ i l. refl)) in
       let sizes = ap not (sizes-kept b _ (λ i l. refl)) in
       let planned = ap not (within-holds 1 maxBlocks (o .plan .planned) (g .planned-range .0) (g .planned-range .1)) in
-      all-pass (planTests o) (order, (ap not (block-kept b), (listed, (prefix, (ranks, (sizes, (planned, tt)))))))
+      let format = ap not (format-kept (g .format)) in
+      all-pass (planTests o) (order, (format, (ap not (block-kept b), (listed, (prefix, (ranks, (sizes, (planned, tt))))))))
 
   -- what is needed then
   pub needed : GoodPlan o

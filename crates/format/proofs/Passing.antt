@@ -12,11 +12,11 @@ use lib.ListN.{length}
 use borrow.Author.Tests.{ltb-false, le-ltb, eq-eqb, not-false}
 use Rattle.lists.proofs.Below.{and-left, and-right, or-left, or-right, or-both, greatest-le, greatest-ge}
 use Rattle.endian.proofs.Signed.{InRange, within-facts, within-natural}
-use Rattle.format.specs.Limits.{maxTasks, maxSize, maxBlocks, Sound, blocksizeRule, tasksRule, ranksRule, sizesRule}
+use Rattle.format.specs.Limits.{maxTasks, maxSize, maxBlocks, Sound, formatRule, blocksizeRule, tasksRule, ranksRule, sizesRule}
 use Rattle.format.specs.declared.head.Head.{Head}
 use Rattle.format.specs.Refusals.{firstFailing}
 use Rattle.format.specs.Layout.{meta2End}
-use Rattle.format.specs.Meta2.{valueIndex}
+use Rattle.format.specs.Meta2.{valueIndex, leastCount}
 use Rattle.format.specs.Record.{entry, cell, allLists, ranksOf, sizesOf, rankOf, sizeOf, countOf, isOrder, holds, startOf, headSound, endAt, tooShort, cellsAgree, recordTests}
 use Rattle.format.specs.Close.{maxchunksOf}
 use Rattle.format.specs.Passed.{Passed, Meta2Fits}
@@ -27,23 +27,24 @@ use Rattle.format.proofs.Fields.{tasks-facts}
 use Rattle.format.proofs.Stripes.{length-sizes}
 
 module _ (h : Head) (lists : List ℕ) (e : headSound h lists ≡ true) where
-  fixed-kept : (isOrder (h .order) && blocksizeRule (pos (h .blocksize)) && tasksRule (pos (h .n))) ≡ true
+  fixed-kept : (isOrder (h .order) && formatRule (pos (h .format)) && blocksizeRule (pos (h .blocksize)) && tasksRule (pos (h .n))) ≡ true
   unfolding headSound
   fixed-kept =
       and-left _ (ranksRule (h .n) (λ i. pos (rankOf lists i)))
       (and-left _ (sizesRule (h .n) (λ i. pos (sizeOf lists i))) e)
 
   pub head-tasks : (1 ≤ h .n) × (h .n ≤ maxTasks)
-  head-tasks = tasks-facts (h .n) (and-right (isOrder (h .order) && blocksizeRule (pos (h .blocksize))) _ fixed-kept)
+  head-tasks = tasks-facts (h .n) (and-right (isOrder (h .order) && formatRule (pos (h .format)) && blocksizeRule (pos (h .blocksize))) _ fixed-kept)
 
   pub head-block : blocksizeRule (pos (h .blocksize)) ≡ true
-  head-block = and-right (isOrder (h .order)) _ (and-left _ (tasksRule (pos (h .n))) fixed-kept)
+  head-block = and-right (isOrder (h .order) && formatRule (pos (h .format))) _ (and-left _ (tasksRule (pos (h .n))) fixed-kept)
 
   head-sizes : sizesRule (h .n) (λ i. pos (sizeOf lists i)) ≡ true
   unfolding headSound
   head-sizes =
       and-right
       (isOrder (h .order)
+      && formatRule (pos (h .format))
       && blocksizeRule (pos (h .blocksize))
       && tasksRule (pos (h .n))
       && ranksRule (h .n) (λ i. pos (rankOf lists i)))
@@ -68,6 +69,7 @@ sound-agree h lists lists′ ranks sizes =
     ap₂
     (λ (rs ss : List ℕ).
     isOrder (h .order)
+    && formatRule (pos (h .format))
     && blocksizeRule (pos (h .blocksize))
     && tasksRule (pos (h .n))
     && ranksRule (h .n) (λ i. pos (entry rs i))
@@ -94,7 +96,7 @@ module _ {h : Head} {lists : List ℕ} {m : ℕ} {image : List ℕ} {table : Lis
     holds-small = capacity-small _ _ (head-block h lists (p .head)) size-small
 
     pub count-few : countOf lists (task - 1) ≤ m
-    count-few = p .counts (task - 1) (omega arith)
+    count-few = p .counts (task - 1) (omega arith) .1
 
     -- the cell of chunk k + 1 is in the table, and a chunk's bytes are in the image
     pub cell-listed : (k : ℕ) → k < m → valueIndex (h .n) k (task - 1) < length table
@@ -117,11 +119,11 @@ module _ {h : Head} {lists : List ℕ} {m : ℕ} {image : List ℕ} {table : Lis
   pub passed-used : Passed h lists (maxchunksOf (h .n) lists) image table
   unfolding maxchunksOf endAt cellsAgree
   passed-used =
-      let most = greatest-le (countOf lists) (h .n) m (p .counts) in
+      let most = greatest-le (countOf lists) (h .n) m (λ i l. p .counts i l .1) in
       record {
         head = p .head;
         few = le-trans most (p .few);
-        counts = λ i l. greatest-ge (countOf lists) (h .n) i l;
+        counts = λ i l. (p .counts i l .0, greatest-ge (countOf lists) (h .n) i l);
         image-long = le-trans (meta2End-mono _ _ _ _ _ most) (p .image-long);
         table-long = le-trans (mul-le-mul-left (h .n) most) (p .table-long);
         agree = values-fewer _ m _ _ _ (p .agree) _ most;
@@ -131,7 +133,10 @@ module _ {h : Head} {lists : List ℕ} {m : ℕ} {image : List ℕ} {table : Lis
 
 -- what test 17 gives of the numbers, of a session or of a loaded record
 abbrev pub SoundNumbers : Head → List ℕ → ℕ → Type 0
-SoundNumbers h lists m = (headSound h lists ≡ true) × (m ≤ maxBlocks) × ((i : ℕ) → i < h .n → countOf lists i ≤ m)
+SoundNumbers h lists m =
+    (headSound h lists ≡ true)
+    × (m ≤ maxBlocks)
+    × ((i : ℕ) → i < h .n → (leastCount (h .format) ≤ countOf lists i) × (countOf lists i ≤ m))
 
 module _ (closed : ℕ) (sound : Bool) (h : Head) (lists : List ℕ) (m : ℕ) (image : List ℕ) (table : List ℤ) where
   pub record-numbered : Numbered (recordTests closed sound h lists m image table)

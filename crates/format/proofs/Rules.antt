@@ -13,7 +13,7 @@ use Rattle.endian.specs.Signed.{within, sameZ, natural}
 use Rattle.lists.proofs.Below.{and-left, and-right, all-at, all-of, all-cong, greatest-at, greatest-ge, greatest-le}
 use Rattle.endian.proofs.Signed.{InRange, within-natural, sameZ-eq, sameZ-refl}
 use Rattle.format.specs.Limits.{maxTasks, minBlocksize, maxBlocksize, maxSize, maxRank, powerOfTwo, tasksRule, blocksizeRule, ranksRule, sizesRule, allDifferent}
-use Rattle.format.specs.Meta2.{valueIndex, unused, valueRule, valuesRule, countsRule}
+use Rattle.format.specs.Meta2.{valueIndex, unused, valueRule, valuesRule, leastCount, countsRule}
 
 -- ---- blocksize, ranks and sizes
 
@@ -64,24 +64,25 @@ module _ (n : ℕ) (size : ℕ → ℤ) where
 
 -- ---- META2's counts
 
-module _ (n m : ℕ) (count : ℕ → ℤ) where
-  pub counts-within : countsRule n m count ≡ true → (i : ℕ) → i < n → within 0 m (count i) ≡ true
+module _ (format n m : ℕ) (count : ℕ → ℤ) where
+  pub counts-within : countsRule format n m count ≡ true → (i : ℕ) → i < n → within (leastCount format) m (count i) ≡ true
   unfolding countsRule
-  counts-within e i l = all-at (λ i. within 0 m (count i)) n i l (and-left _ (eqb (greatestBelow n (λ i. natural (count i))) m) e)
+  counts-within e i l = all-at (λ i. within (leastCount format) m (count i)) n i l (and-left _ (eqb (greatestBelow n (λ i. natural (count i))) m) e)
 
-  pub counts-greatest : countsRule n m count ≡ true → 0 < n → (i : ℕ) × (i < n) × (natural (count i) ≡ m)
+  pub counts-greatest : countsRule format n m count ≡ true → 0 < n → (i : ℕ) × (i < n) × (natural (count i) ≡ m)
   unfolding countsRule
   counts-greatest e some =
       let g = greatest-at (λ i. natural (count i)) n some in
-      (g .0, g .1, g .2 ∙ eqb-true _ m (and-right (allBelow n (λ i. within 0 m (count i))) _ e))
+      (g .0, g .1, g .2 ∙ eqb-true _ m (and-right (allBelow n (λ i. within (leastCount format) m (count i))) _ e))
 
-  pub counts-hold : ((i : ℕ) → i < n → within 0 m (count i) ≡ true) → (i : ℕ) → i < n → natural (count i) ≡ m → countsRule n m count ≡ true
+  pub counts-hold : ((i : ℕ) → i < n → within (leastCount format) m (count i) ≡ true) → (i : ℕ) → i < n → natural (count i) ≡ m
+      → countsRule format n m count ≡ true
   unfolding countsRule
   counts-hold range i l top =
       let f : ℕ → ℕ = λ i. natural (count i) in
-      rw (all-of (λ i. within 0 m (count i)) n range)
+      rw (all-of (λ i. within (leastCount format) m (count i)) n range)
       (eq-eqb (greatestBelow n f) m
-      (le-antisymm (greatest-le f n m (λ j h. within-natural 0 m (count j) (range j h) .2)) (omega (arith, greatest-ge f n i l))))
+      (le-antisymm (greatest-le f n m (λ j h. within-natural (leastCount format) m (count j) (range j h) .2)) (omega (arith, greatest-ge f n i l))))
 
 -- ---- META2's values: where they stand, those of used chunks, and the others
 

@@ -139,8 +139,8 @@ module _ (h : Head) (rank size : ℕ → ℕ) (prefix : List ℕ) (maxchunks sta
   pub patch-back : mag (h .patch) < 2 ^ 31 → Meta1.patchField (isBig h) image ≡ h .patch
   patch-back l = field 3 12 4 (h .patch) _ refl refl (lit< tt) l
 
-  pub format-back : Meta1.formatField (isBig h) image ≡ pos Meta1.formatVersion
-  format-back = field 4 16 4 (pos Meta1.formatVersion) _ refl refl (lit< tt) (lit< tt)
+  pub format-back : h .format < 2 ^ 31 → Meta1.formatField (isBig h) image ≡ pos (h .format)
+  format-back l = field 4 16 4 (pos (h .format)) _ refl refl (lit< tt) l
 
   pub blocksize-back : h .blocksize < 2 ^ 31 → Meta1.blocksizeField (isBig h) image ≡ pos (h .blocksize)
   blocksize-back l = field 5 20 4 (pos (h .blocksize)) _ refl refl (lit< tt) l

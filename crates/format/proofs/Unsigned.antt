@@ -11,7 +11,7 @@ use Rattle.endian.specs.Signed.{signed, within, sameZ, natural}
 use Rattle.lists.proofs.Below.{all-at, all-cong, greatest-cong}
 use Rattle.endian.proofs.Signed.{signed-low, within-facts, within-signed}
 use Rattle.format.specs.Limits.{maxSize, maxRank, allDifferent, ranksRule, sizesRule}
-use Rattle.format.specs.Meta2.{countsRule}
+use Rattle.format.specs.Meta2.{leastCount, countsRule}
 
 -- two tests that agree where a first one holds
 and-agree : (a b c : Bool) → (a ≡ true → b ≡ c) → (a && b) ≡ (a && c)
@@ -64,10 +64,10 @@ module _ (h n : ℕ) (f g : ℕ → ℕ) (reads : (i : ℕ) → i < n → g i �
   unfolding sizesRule
   sizes-unsigned l = all-unsigned 1 maxSize l
 
-  pub counts-unsigned : (maxchunks : ℕ) → maxchunks < 2 ^ h
-      → countsRule n maxchunks (λ i. pos (g i)) ≡ countsRule n maxchunks (λ i. signed h (f i))
+  pub counts-unsigned : (format maxchunks : ℕ) → maxchunks < 2 ^ h
+      → countsRule format n maxchunks (λ i. pos (g i)) ≡ countsRule format n maxchunks (λ i. signed h (f i))
   unfolding countsRule
-  counts-unsigned maxchunks l =
-      rule-unsigned 0 maxchunks l (λ x. eqb (greatestBelow n (λ i. natural (x i))) maxchunks)
+  counts-unsigned format maxchunks l =
+      rule-unsigned (leastCount format) maxchunks l (λ x. eqb (greatestBelow n (λ i. natural (x i))) maxchunks)
       (λ x y same.
       ap (λ (m : ℕ). eqb m maxchunks) (greatest-cong (λ i. natural (x i)) (λ i. natural (y i)) n (λ i m. ap natural (same i m))))

@@ -15,7 +15,7 @@ use Rattle.format.specs.Record.{entry, cell, rankOf, sizeOf, countOf}
 use Rattle.format.specs.declared.session.Session.{Session}
 use Rattle.format.specs.Open.{Opening}
 use Rattle.format.specs.declared.loaded.Loaded.{Loaded}
-use Rattle.format.specs.Container.{InBounds}
+use Rattle.format.specs.Container.{InBounds, IsFormat}
 use Rattle.lists.specs.Logic.{Exactly, Not}
 use Rattle.format.specs.Session.{State}
 use Rattle.format.specs.Reads.{Container}
@@ -38,6 +38,7 @@ pub record LongEnough (b n : ℕ) (size : ℕ → ℕ) (m : ℕ) (image : List �
 -- its plan, ranks, sizes and prefix are ones that it is not refused for, whatever it is lent
 pub record GoodPlan (o : Opening) : Type 0 where
   pub order : IsOrder (o .plan .order)
+  pub format : IsFormat (o .plan .format)
   pub bounds : InBounds (o .plan .blocksize) (length (o .ranks)) (entry (o .ranks)) (entry (o .sizes))
   pub one-length : length (o .sizes) ≡ length (o .ranks)
   pub prefix-fits : length (o .prefix) ≤ prefixLength
@@ -53,21 +54,24 @@ pub record GoodOpening (o : Opening) (image : List ℕ) (table : List ℤ) : Typ
 -- its head, its ranks and its sizes
 pub record GoodHead (h : Head) (lists : List ℕ) : Type 0 where
   pub order : IsOrder (h .order)
+  pub format : IsFormat (h .format)
   pub bounds : InBounds (h .blocksize) (h .n) (rankOf lists) (sizeOf lists)
 
--- "a session's counts are at most K"
+-- "a session's counts are at most K", and in version 4 at least 1
 pub record GoodSession (s : Session) (lists : List ℕ) : Type 0 where
   pub not-closed : s .closed ≡ 0
   pub head : GoodHead (s .head) lists
   pub planned-range : (1 ≤ s .planned) × (s .planned ≤ maxBlocks)
   pub counts-range : (i : ℕ) → i < s .head .n → countOf lists i ≤ s .planned
+  pub counts-idle : s .head .format ≡ 4 → (i : ℕ) → i < s .head .n → 1 ≤ countOf lists i
 
--- "a loaded record's greatest count is its maxchunks"
+-- "a loaded record's greatest count is its maxchunks", and in version 4 each is at least 1
 pub record GoodLoaded (l : Loaded) (lists : List ℕ) : Type 0 where
   pub not-closed : l .closed ≡ 0
   pub head : GoodHead (l .head) lists
   pub maxchunks-range : l .maxchunks ≤ maxBlocks
   pub counts-range : (i : ℕ) → i < l .head .n → countOf lists i ≤ l .maxchunks
+  pub counts-idle : l .head .format ≡ 4 → (i : ℕ) → i < l .head .n → 1 ≤ countOf lists i
   pub greatest : (i : ℕ) × (i < l .head .n) × (countOf lists i ≡ l .maxchunks)
 
 -- META2's rule over the cells of m chunks: "values at or below its count are 0 or more, all later ones are -1"

@@ -15,7 +15,7 @@ use Rattle.format.specs.Numbers.{Row, row, plan, two, write, twoFirst, t
 abbrev pub abPlan : ℕ → Opening
 abPlan order =
     record {
-      plan = record { order = order; version = negsuc 1; patch = pos 7; blocksize = 512; planned = 3 };
+      plan = record { order = order; version = negsuc 1; patch = pos 7; format = 3; blocksize = 512; planned = 3 };
       ranks = 5 ∷ 258 ∷ [];
       sizes = two;
       prefix = 97 ∷ 98 ∷ [];

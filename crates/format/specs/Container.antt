@@ -3,6 +3,7 @@
 use mathlib.Core.Path.{_≡_}
 use mathlib.Core.Bool.{Bool}
 use mathlib.Core.List.{List}
+use mathlib.Core.Logic.{_⊎_}
 use Prim.Native.Nat.{ℕ, _^_, _≤_, _<_, _+_, _*_}
 use lib.IntN.{ℤ, pos}
 use lib.ListN.{length, take}
@@ -20,6 +21,7 @@ pub record Contents : Type 0 where
   pub big : Bool
   pub version : ℤ
   pub patch : ℤ
+  pub format : ℕ
   pub blocksize : ℕ
   pub n : ℕ
   pub rank : ℕ → ℕ
@@ -38,6 +40,10 @@ pub record InBounds (blocksize n : ℕ) (rank size : ℕ → ℕ) : Type 0 where
   pub ranks-differ : (i j : ℕ) → i < n → j < n → rank i ≡ rank j → i ≡ j
   pub sizes-range : (i : ℕ) → i < n → (1 ≤ size i) × (size i ≤ maxSize)
 
+-- fileformat_version: "Loading and opening take 3 or 4" (W-209)
+abbrev pub IsFormat : ℕ → Type 0
+IsFormat format = (format ≡ 3) ⊎ (format ≡ 4)
+
 -- META1 of an image holds these contents, and they keep its rules
 pub record HasMeta1 (image : List ℕ) (c : Contents) : Type 0 where
   pub bounds : InBounds (c .blocksize) (c .n) (c .rank) (c .size)
@@ -46,7 +52,8 @@ pub record HasMeta1 (image : List ℕ) (c : Contents) : Type 0 where
   pub order-is : Meta1.orderField (c .big) image ≡ pos Meta1.orderNumber
   pub version-is : Meta1.versionField (c .big) image ≡ c .version
   pub patch-is : Meta1.patchField (c .big) image ≡ c .patch
-  pub format-is : Meta1.formatField (c .big) image ≡ pos Meta1.formatVersion
+  pub format-is : Meta1.formatField (c .big) image ≡ pos (c .format)
+  pub format-known : IsFormat (c .format)
   pub blocksize-is : Meta1.blocksizeField (c .big) image ≡ pos (c .blocksize)
   pub tasks-are : Meta1.tasksField (c .big) image ≡ pos (c .n)
   pub files-are : Meta1.filesField (c .big) image ≡ pos Meta1.fileCount
@@ -69,6 +76,7 @@ pub record Meta2With (holds : ℕ → ℕ → ℕ) (image : List ℕ) (c : Conte
   pub fits : meta2End (c .blocksize) (c .n) (c .size) (c .maxchunks) ≤ length image
   pub counts-are : (i : ℕ) → i < c .n → Meta2.countField (c .big) (meta2Said image c) i ≡ pos (c .count i)
   pub counts-range : (i : ℕ) → i < c .n → c .count i ≤ c .maxchunks
+  pub counts-idle : c .format ≡ 4 → (i : ℕ) → i < c .n → 1 ≤ c .count i
   pub greatest : (i : ℕ) × (i < c .n) × (c .count i ≡ c .maxchunks)
   pub used-first : (i k : ℕ) → i < c .n → k < c .count i → valueOf image c k i ≡ pos (c .written k i)
   pub used-fit : (i k : ℕ) → i < c .n → k < c .count i → c .written k i ≤ holds (c .blocksize) (c .size i)
@@ -86,9 +94,10 @@ pub record ContainerWith (holds : ℕ → ℕ → ℕ) (image : List ℕ) : Type
 abbrev pub IsContainer : List ℕ → Type 0
 IsContainer = ContainerWith capacity
 
--- what was one before W-202
-abbrev pub WasContainer : List ℕ → Type 0
-WasContainer = ContainerWith requested
+-- what was one before W-202, when fileformat_version was 3 only
+pub record WasContainer (image : List ℕ) : Type 0 where
+  pub was : ContainerWith requested image
+  pub version-3 : was .says .format ≡ 3
 
 -- ---- what a load hands back of it
 
@@ -103,16 +112,17 @@ pub record Lists (n : ℕ) (rank size count : ℕ → ℕ) (lists : List ℕ) : 
   pub as-many : length lists ≡ 3 * maxTasks
 
 -- the numbers of a record's head, one by one
-pub record HeadSays (h : Head) (order : ℕ) (version patch : ℤ) (blocksize n : ℕ) : Type 0 where
+pub record HeadSays (h : Head) (order : ℕ) (version patch : ℤ) (format blocksize n : ℕ) : Type 0 where
   pub order-is : h .order ≡ order
   pub version-is : h .version ≡ version
   pub patch-is : h .patch ≡ patch
+  pub format-is : h .format ≡ format
   pub blocksize-is : h .blocksize ≡ blocksize
   pub tasks-are : h .n ≡ n
 
 -- a loaded record says what the container says, and is not marked closed
 pub record Recorded (c : Contents) (l : Loaded) (lists : List ℕ) : Type 0 where
-  pub head : HeadSays (l .head) (orderOf (c .big)) (c .version) (c .patch) (c .blocksize) (c .n)
+  pub head : HeadSays (l .head) (orderOf (c .big)) (c .version) (c .patch) (c .format) (c .blocksize) (c .n)
   pub maxchunks : l .maxchunks ≡ c .maxchunks
   pub not-closed : l .closed ≡ 0
   pub listed : Lists (c .n) (c .rank) (c .size) (c .count) lists

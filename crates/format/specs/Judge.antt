@@ -8,7 +8,7 @@ use lib.IntN.{ℤ}
 use lib.ListN.{length, getD}
 use Rattle.lists.specs.Below.{allBelow, listBelow}
 use Rattle.endian.specs.Signed.{within, natural}
-use Rattle.format.specs.Limits.{blocksizeRule, tasksRule, ranksRule, sizesRule, maxchunksRule}
+use Rattle.format.specs.Limits.{formatRule, blocksizeRule, tasksRule, ranksRule, sizesRule, maxchunksRule}
 use Rattle.format.specs.Layout.{meta1End}
 use Rattle.format.specs.declared.head.Head.{Head}
 use Rattle.format.specs.Refusals.{Test, test}
@@ -41,7 +41,8 @@ module _ (xs : List ℕ) where
 
   unfoldable pub headIn : Head
   headIn =
-      headOf (orderOf bigIn) (Meta1.versionField bigIn xs) (Meta1.patchField bigIn xs) (natural (Meta1.blocksizeField bigIn xs)) tasksIn
+      headOf (orderOf bigIn) (Meta1.versionField bigIn xs) (Meta1.patchField bigIn xs) (natural (Meta1.formatField bigIn xs))
+      (natural (Meta1.blocksizeField bigIn xs)) tasksIn
 
   -- of task i + 1
   unfoldable pub rankIn : ℕ → ℕ
@@ -65,7 +66,7 @@ module _ (xs : List ℕ) where
   -- "4, 5, 6, 7, 3 (full)"
   unfoldable pub fieldTests : ℕ → List Test
   fieldTests len =
-      test 4 (not (is Meta1.formatVersion (Meta1.formatField bigIn xs)))
+      test 4 (not (formatRule (Meta1.formatField bigIn xs)))
       ∷ test 5 (not (blocksizeRule (Meta1.blocksizeField bigIn xs)))
       ∷ test 6 (not (tasksRule (Meta1.tasksField bigIn xs)))
       ∷ test 7 (not (is Meta1.fileCount (Meta1.filesField bigIn xs) && is Meta1.fileNumber (Meta1.fileNumberField bigIn xs)))
@@ -112,6 +113,6 @@ unfoldable pub meta2Tests : Head → (ℕ → ℕ) → ℕ → List ℕ → List
 meta2Tests h size maxchunks part =
     test 13
     (not
-    (Meta2.countsRule (h .n) maxchunks (Meta2.countField (isBig h) part)
+    (Meta2.countsRule (h .format) (h .n) maxchunks (Meta2.countField (isBig h) part)
     && Meta2.valuesRule (h .n) maxchunks (holds h size) (countIn h part) (Meta2.valueField (isBig h) part (h .n))))
     ∷ []

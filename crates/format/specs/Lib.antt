@@ -22,3 +22,4 @@ pub mod Numbers
 pub mod Orders
 pub mod Bytes
 pub mod Lines
+pub mod Idle

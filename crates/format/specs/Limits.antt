@@ -28,6 +28,17 @@ maxBlocks = 32
 abbrev pub maxRank : ℕ
 maxRank = 2_147_483_647
 
+-- the two values of fileformat_version: document 01's, and the one in which "a task which wrote nothing still has count 1" (W-209)
+abbrev pub plainFormat : ℕ
+plainFormat = 3
+
+abbrev pub idleFormat : ℕ
+idleFormat = 4
+
+-- "Loading and opening take 3 or 4"
+unfoldable pub formatRule : ℤ → Bool
+formatRule format = within plainFormat idleFormat format
+
 -- "Tasks 1 to 64"
 unfoldable pub tasksRule : ℤ → Bool
 tasksRule n = within 1 maxTasks n

@@ -14,7 +14,7 @@ unfoldable pub loadedSound : Loaded → List ℕ → Bool
 loadedSound l lists =
     headSound (l .head) lists
     && maxchunksRule (pos (l .maxchunks))
-    && countsRule (l .head .n) (l .maxchunks) (λ i. pos (countOf lists i))
+    && countsRule (l .head .format) (l .head .n) (l .maxchunks) (λ i. pos (countOf lists i))
 
 -- ---- the place where it is made
 

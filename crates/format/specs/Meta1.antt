@@ -14,12 +14,9 @@ use Rattle.format.specs.Record.{isBig}
 abbrev pub magic : List ℕ
 magic = 115 ∷ 105 ∷ 111 ∷ 110 ∷ []
 
--- fileformat_version, nfiles and filenumber have one value each; the order is told by the number 1
+-- nfiles and filenumber have one value each; the order is told by the number 1
 abbrev pub orderNumber : ℕ
 orderNumber = 1
-
-abbrev pub formatVersion : ℕ
-formatVersion = 3
 
 abbrev pub fileCount : ℕ
 fileCount = 1
@@ -98,7 +95,7 @@ frontFields h rank size prefix =
     ∷ signedDigits big 4 (pos orderNumber)
     ∷ signedDigits big 4 (h .version)
     ∷ signedDigits big 4 (h .patch)
-    ∷ signedDigits big 4 (pos formatVersion)
+    ∷ signedDigits big 4 (pos (h .format))
     ∷ signedDigits big 4 (pos (h .blocksize))
     ∷ signedDigits big 4 (pos (h .n))
     ∷ signedDigits big 4 (pos fileCount)

@@ -9,6 +9,7 @@ use lib.IntN.{ℤ, pos, negsuc}
 use lib.ListN.{take, drop}
 use Rattle.lists.specs.Below.{allBelow, greatestBelow, joinBelow}
 use Rattle.endian.specs.Signed.{signedAt, signedDigits, within, sameZ, natural}
+use Rattle.format.specs.Limits.{idleFormat}
 use Rattle.format.specs.Layout.{meta2Length}
 
 -- the part of an image that META2 is
@@ -39,10 +40,14 @@ unfoldable pub valuesRule : ℕ → ℕ → (ℕ → ℕ) → (ℕ → ℕ) → 
 valuesRule n m holds count value =
     allBelow m (λ k. allBelow n (λ i. valueRule (ltb k (count i)) (holds i) (value (valueIndex n k i))))
 
--- counts from 0 to maxchunks; "maxchunks is the greatest count, and may be 0"
-unfoldable pub countsRule : ℕ → ℕ → (ℕ → ℤ) → Bool
-countsRule n maxchunks count =
-    allBelow n (λ i. within 0 maxchunks (count i)) && eqb (greatestBelow n (λ i. natural (count i))) maxchunks
+-- the least count of a task: "4 means that a task which wrote nothing still has count 1 with 0 bytes in chunk 1" (W-209)
+unfoldable pub leastCount : ℕ → ℕ
+leastCount format = cond (eqb format idleFormat) 1 0
+
+-- counts from the least to maxchunks; "maxchunks is the greatest count, and may be 0"
+unfoldable pub countsRule : ℕ → ℕ → ℕ → (ℕ → ℤ) → Bool
+countsRule format n maxchunks count =
+    allBelow n (λ i. within (leastCount format) maxchunks (count i)) && eqb (greatestBelow n (λ i. natural (count i))) maxchunks
 
 -- "META2 has 8n(1+maxchunks) bytes"
 unfoldable pub meta2 : Bool → ℕ → ℕ → (ℕ → ℕ) → (ℕ → ℤ) → List ℕ

@@ -41,14 +41,18 @@ Agrees (r ∷ rows) = (r .computed ≡ r .stated) × Agrees rows
 
 -- ---- sessions, run by the rules over an image and a table of zeros
 
-abbrev pub plan : ℕ → ℕ → List ℕ → ℕ → Opening
-plan order blocksize sizes planned =
+-- an opening in a format, and in document 01's
+abbrev pub planIn : ℕ → ℕ → ℕ → List ℕ → ℕ → Opening
+planIn format order blocksize sizes planned =
     record {
-      plan = record { order = order; version = pos 1; patch = pos 7; blocksize = blocksize; planned = planned };
+      plan = record { order = order; version = pos 1; patch = pos 7; format = format; blocksize = blocksize; planned = planned };
       ranks = listBelow (length sizes) (λ i. i);
       sizes = sizes;
       prefix = [];
     }
+
+abbrev pub plan : ℕ → ℕ → List ℕ → ℕ → Opening
+plan = planIn 3
 
 abbrev pub openedZeros : Opening → ℕ → ℕ → State
 openedZeros o imageLength cells = opened o (replicate imageLength 0) (replicate cells (pos 0))
@@ -89,34 +93,37 @@ twoMoved =
     let book = feedAll twoPlan initial (fed (twoFirst ++ (twoLast ∷ []))) in
     offset twoPlan 1 (outcomeIn twoPlan book (record { task = 1; L = 12 })) (book 1)
 
--- closed, in a byte order: META1's last two fields, META2, the length and the closed mark
-abbrev pub twoClosed : Bool → List ℤ
-twoClosed big =
-    let done = twoDone (orderOf big) in
+-- a session of two tasks closed, in a byte order: META1's last two fields, four numbers of META2, the length and the closed mark
+abbrev pub closedTwo : Bool → State → List ℤ
+closedTwo big done =
     let image = closeImage done in
     maxchunksField big image 2
     ∷ startField big image 2
     ∷ listBelow 4 (λ j. signedAt big 8 image (3072 + 8 * j))
     ++ (pos (closeAnswer done .length) ∷ pos (closeAnswer done .session .closed) ∷ [])
 
+abbrev pub twoClosed : Bool → List ℤ
+twoClosed big = closedTwo big (twoDone (orderOf big))
+
 abbrev pub twoStated : List ℤ
 twoStated = pos 1 ∷ pos 3072 ∷ pos 1 ∷ pos 0 ∷ pos 501 ∷ negsuc 0 ∷ pos 3104 ∷ pos 1 ∷ []
 
--- ---- "Size 500, K=2", one task, with blocksize 512, and then of another size: requests of so many bytes, by the session's rules and by the
--- tally; at last twice the bytes held and one more, beside K·c
+-- ---- "Size 500, K=2", one task, with blocksize 512, and then of another size or in another format: requests of so many bytes, by the session's
+-- rules and by the tally; at last twice the bytes held and one more, beside K·c
 
-abbrev pub oneOpened : ℕ → State
-oneOpened size = openedZeros (plan 0 512 (size ∷ []) 2) (imageNeeded 512 1 (λ i. size) 2) 2
+abbrev pub onePlan : ℕ → ℕ → Opening
+onePlan format size = planIn format 0 512 (size ∷ []) 2
 
-abbrev pub onePlan : ℕ → Terms
-onePlan size = termsOf (plan 0 512 (size ∷ []) 2)
+abbrev pub oneAnswersIn : ℕ → ℕ → List ℕ → List ℕ
+oneAnswersIn format size lengths =
+    let requests = map (λ (L : ℕ). write L 7) lengths in
+    let p = termsOf (onePlan format size) in
+    let byTally = answers p initial (fed requests) in
+    refusals (openedZeros (onePlan format size) (imageNeeded 512 1 (λ i. size) 2) 2) requests
+    ++ (byTally ++ (2 * (held 1 (fed requests) byTally + 1) ∷ p .K * p .c 1 ∷ []))
 
 abbrev pub oneAnswers : ℕ → List ℕ → List ℕ
-oneAnswers size lengths =
-    let requests = map (λ (L : ℕ). write L 7) lengths in
-    let byTally = answers (onePlan size) initial (fed requests) in
-    refusals (oneOpened size) requests
-    ++ (byTally ++ (2 * (held 1 (fed requests) byTally + 1) ∷ onePlan size .K * onePlan size .c 1 ∷ []))
+oneAnswers = oneAnswersIn 3
 
 -- P1 to P13, in order
 unfoldable pub pTable : List Row
@@ -191,7 +198,7 @@ withRanks ranks =
 
 abbrev pub recordOf : Head → ℕ → ℕ → List ℕ → List ℤ
 recordOf h chunks closed lists =
-    (pos (h .order) ∷ h .version ∷ h .patch ∷ pos (h .blocksize) ∷ pos (h .n) ∷ pos chunks ∷ pos closed ∷ []) ++ map pos lists
+    (pos (h .order) ∷ h .version ∷ h .patch ∷ pos (h .format) ∷ pos (h .blocksize) ∷ pos (h .n) ∷ pos chunks ∷ pos closed ∷ []) ++ map pos lists
 
 abbrev pub refusedLoad : List ℤ
 refusedLoad = let a = loadAnswer [] [] in recordOf (a .loaded .head) (a .loaded .maxchunks) (a .loaded .closed) (a .lists)
@@ -201,13 +208,13 @@ refusedOpening =
     let a = openAnswer (plan 2 512 two 3) [] [] in recordOf (a .session .head) (a .session .planned) (a .session .closed) (a .lists)
 
 abbrev pub zerosMarked : List ℤ
-zerosMarked = map pos ((0 ∷ 0 ∷ 0 ∷ 0 ∷ 0 ∷ 0 ∷ 1 ∷ []) ++ replicate 192 0)
+zerosMarked = map pos ((0 ∷ 0 ∷ 0 ∷ 0 ∷ 0 ∷ 0 ∷ 0 ∷ 1 ∷ []) ++ replicate 192 0)
 
 -- ---- what a chunk holds, by a blocksize and a requested size: the number itself, then 13 of META2, 19's rule of the cells, and the tally's answer, of
 -- just as many bytes and of one more
 
 abbrev pub headWith : ℕ → Head
-headWith b = headOf 0 (pos 1) (pos 7) b 1
+headWith b = headOf 0 (pos 1) (pos 7) 3 b 1
 
 abbrev pub filledBy : ℕ → ℕ → ℕ → List ℕ
 filledBy b size bytes =
@@ -229,7 +236,7 @@ twoImage order bytes = take bytes (closeImage (twoDone order))
 -- the container that the session of P12 gave while a chunk held its requested size only: the last byte at 3072, in chunk 2, and META2 at 4608
 abbrev pub storedTwo : ℕ → List ℕ
 storedTwo order =
-    meta1 (headOf order (pos 1) (pos 7) 512 2) (λ i. i) (entry two) [] 2 4608
+    meta1 (headOf order (pos 1) (pos 7) 3 512 2) (λ i. i) (entry two) [] 2 4608
     ++ replicate 416 0
     ++ (replicate 300 1 ++ replicate 200 2 ++ replicate 1036 0)
     ++ (3 ∷ replicate 1535 0)
@@ -238,7 +245,8 @@ storedTwo order =
 abbrev pub loadedHere : List ℕ → Container
 loadedHere image = loadedFrom image (replicate 4 (pos 0))
 
--- what it says: the refusal number, n, maxchunks and each task's total; then library version, patch level and fileformat_version
+-- what it says: the refusal number, n, maxchunks and each task's total; then library version, patch level and fileformat_version, as the record has
+-- it and as it stands
 abbrev pub said : List ℕ → List ℤ
 said image =
     let c = loadedHere image in
@@ -249,7 +257,7 @@ said image =
     ∷ totalAnswer c 1 .bytes
     ∷ totalAnswer c 2 .bytes
     ∷ [])
-    ++ (c .loaded .head .version ∷ c .loaded .head .patch ∷ formatField false image ∷ [])
+    ++ (c .loaded .head .version ∷ c .loaded .head .patch ∷ pos (c .loaded .head .format) ∷ formatField false image ∷ [])
 
 -- the second chunk of task 1 and its place, no third one, the last two bytes of its stream into four bytes of 9, a place past its total, and no
 -- third task
@@ -272,7 +280,7 @@ whole image =
 -- ---- the numbers of loading: a container of one task that wrote nothing, whole, cut short, and with one byte changed
 abbrev pub smallest : List ℕ
 smallest =
-    meta1 (headOf 0 (pos 1) (pos 7) 512 1) (λ i. 0) (λ i. 1) [] 0 1536 ++ (replicate 432 0 ++ replicate 8 0)
+    meta1 (headOf 0 (pos 1) (pos 7) 3 512 1) (λ i. 0) (λ i. 1) [] 0 1536 ++ (replicate 432 0 ++ replicate 8 0)
 
 abbrev pub cutTo : ℕ → ℕ
 cutTo bytes = loadRefusal (take bytes smallest) 0
@@ -305,8 +313,8 @@ otherTable =
     ∷ record {
       computed = said (twoImage 0 3104) ++ said (storedTwo 0);
       stated =
-          (pos 0 ∷ pos 2 ∷ pos 1 ∷ pos 501 ∷ pos 0 ∷ pos 1 ∷ pos 7 ∷ pos 3 ∷ [])
-          ++ (pos 0 ∷ pos 2 ∷ pos 2 ∷ pos 501 ∷ pos 0 ∷ pos 1 ∷ pos 7 ∷ pos 3 ∷ []);
+          (pos 0 ∷ pos 2 ∷ pos 1 ∷ pos 501 ∷ pos 0 ∷ pos 1 ∷ pos 7 ∷ pos 3 ∷ pos 3 ∷ [])
+          ++ (pos 0 ∷ pos 2 ∷ pos 2 ∷ pos 501 ∷ pos 0 ∷ pos 1 ∷ pos 7 ∷ pos 3 ∷ pos 3 ∷ []);
     }
     ∷ row
     (loadRefusal (twoImage 1 3103) 4 ∷ loadRefusal (twoImage 0 3104) 1 ∷ loadRefusal (take 4655 (storedTwo 1)) 4 ∷ loadRefusal (storedTwo 0) 3 ∷ [])
@@ -339,7 +347,7 @@ otherTable =
     ∷ row
     (changed 3 111
     ∷ changed 4 0
-    ∷ changed 16 4
+    ∷ changed 16 5
     ∷ changed 21 3
     ∷ changed 24 0
     ∷ changed 28 2

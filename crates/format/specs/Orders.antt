@@ -32,7 +32,7 @@ fault at byte = record { at = at; byte = byte }
 
 abbrev pub one : List ℕ
 one =
-    meta1 (headOf 0 (pos 1) (pos 7) 512 1) (λ i. 0) (λ i. 10) [] 1 2048
+    meta1 (headOf 0 (pos 1) (pos 7) 3 512 1) (λ i. 0) (λ i. 10) [] 1 2048
     ++ (replicate 944 0 ++ meta2 false 1 1 (λ i. 1) (λ j. pos 10))
 
 -- one byte for each test but 3 and 18: 1, 2, 4, 5, 6, 7, 8, 9, 10, 11, 12, 13
@@ -40,7 +40,7 @@ abbrev pub faults : List Fault
 faults =
     fault 3 111
     ∷ fault 4 0
-    ∷ fault 16 4
+    ∷ fault 16 5
     ∷ fault 21 3
     ∷ fault 24 65
     ∷ fault 28 2
@@ -61,13 +61,13 @@ spoilt (f ∷ fs) image = splice (spoilt fs image) (f .at) (f .byte ∷ [])
 abbrev pub loadOf : ℕ → ℕ → ℕ → ℕ
 loadOf mended bytes cells = loadRefusal (take bytes (spoilt (drop mended faults) one)) cells
 
--- ---- opening: an order, a blocksize, ranks, sizes, how many bytes of a prefix, K, and the lengths of the image and the table
+-- ---- opening: an order, a format, a blocksize, ranks, sizes, how many bytes of a prefix, K, and the lengths of the image and the table
 
-abbrev pub openOf : ℕ → ℕ → List ℕ → List ℕ → ℕ → ℕ → ℕ → ℕ → ℕ
-openOf order blocksize ranks sizes prefix planned =
+abbrev pub openOf : ℕ → ℕ → ℕ → List ℕ → List ℕ → ℕ → ℕ → ℕ → ℕ → ℕ
+openOf order format blocksize ranks sizes prefix planned =
     openRefusal
     (record {
-      plan = record { order = order; version = pos 1; patch = pos 7; blocksize = blocksize; planned = planned };
+      plan = record { order = order; version = pos 1; patch = pos 7; format = format; blocksize = blocksize; planned = planned };
       ranks = ranks;
       sizes = sizes;
       prefix = replicate prefix 97;
@@ -76,7 +76,7 @@ openOf order blocksize ranks sizes prefix planned =
 -- ---- writes, closes and reads of a record of one task that wrote 10 bytes in one chunk: its mark, the bytes of its image, its table
 
 abbrev pub oneHead : Head
-oneHead = headOf 0 (pos 1) (pos 7) 512 1
+oneHead = headOf 0 (pos 1) (pos 7) 3 512 1
 
 abbrev pub oneList : List ℕ
 oneList = listsOf 1 (λ i. 0) (λ i. 10) (λ i. 1)
@@ -98,10 +98,11 @@ chunkAt closed bytes table = chunkRefusal (containerOf (loadedOf oneHead 1 close
 abbrev pub readAt : ℕ → ℕ → List ℤ → ℕ → ℕ → ℕ
 readAt closed bytes table = readRefusal (containerOf (loadedOf oneHead 1 closed) oneList (replicate bytes 0) table)
 
--- ---- what test 17 judges: an order, a blocksize, n, two ranks, two sizes, two counts, K or maxchunks, and the closed mark
+-- ---- what test 17 judges: an order, a format, a blocksize, n, two ranks, two sizes, two counts, K or maxchunks, and the closed mark
 
 pub record Numbers17 : Type 0 where
   pub order : ℕ
+  pub format : ℕ
   pub blocksize : ℕ
   pub n : ℕ
   pub ranks : List ℕ
@@ -110,10 +111,11 @@ pub record Numbers17 : Type 0 where
   pub chunks : ℕ
   pub closed : ℕ
 
-abbrev pub numbers : ℕ → ℕ → ℕ → List ℕ → List ℕ → List ℕ → ℕ → ℕ → Numbers17
-numbers order blocksize n ranks sizes counts chunks closed =
+abbrev pub numbers : ℕ → ℕ → ℕ → ℕ → List ℕ → List ℕ → List ℕ → ℕ → ℕ → Numbers17
+numbers order format blocksize n ranks sizes counts chunks closed =
     record {
       order = order;
+      format = format;
       blocksize = blocksize;
       n = n;
       ranks = ranks;
@@ -124,7 +126,7 @@ numbers order blocksize n ranks sizes counts chunks closed =
     }
 
 abbrev pub headAt : Numbers17 → Head
-headAt r = headOf (r .order) (pos 1) (pos 7) (r .blocksize) (r .n)
+headAt r = headOf (r .order) (pos 1) (pos 7) (r .format) (r .blocksize) (r .n)
 
 abbrev pub listsAt : Numbers17 → List ℕ
 listsAt r = listsOf 2 (entry (r .ranks)) (entry (r .sizes)) (entry (r .counts))
@@ -136,42 +138,48 @@ sessionNumber r = closeOf (stateOf (sessionOf (headAt r) (r .chunks) (r .closed)
 abbrev pub loadedNumber : Numbers17 → ℕ
 loadedNumber r = totalAnswer (containerOf (loadedOf (headAt r) (r .chunks) (r .closed)) (listsAt r) [] []) 1 .refusal
 
--- what both kinds of record can break: the order, the blocksize, n, a rank, two ranks, a size, a count, the chunks, the closed mark
+-- what both kinds of record can break: the order, the format, the blocksize, n, a rank, two ranks, a size, a count, in version 4 a count of 0, the
+-- chunks, the closed mark
 abbrev pub broken : List Numbers17
 broken =
-    numbers 2 512 2 (0 ∷ 1 ∷ []) (500 ∷ 600 ∷ []) (2 ∷ 3 ∷ []) 3 0
-    ∷ numbers 0 256 2 (0 ∷ 1 ∷ []) (500 ∷ 600 ∷ []) (2 ∷ 3 ∷ []) 3 0
-    ∷ numbers 0 768 2 (0 ∷ 1 ∷ []) (500 ∷ 600 ∷ []) (2 ∷ 3 ∷ []) 3 0
-    ∷ numbers 0 8_388_608 2 (0 ∷ 1 ∷ []) (500 ∷ 600 ∷ []) (2 ∷ 3 ∷ []) 3 0
-    ∷ numbers 0 512 0 (0 ∷ 1 ∷ []) (500 ∷ 600 ∷ []) (2 ∷ 3 ∷ []) 3 0
-    ∷ numbers 0 512 65 (0 ∷ 1 ∷ []) (500 ∷ 600 ∷ []) (2 ∷ 3 ∷ []) 3 0
-    ∷ numbers 0 512 2 (0 ∷ 2_147_483_648 ∷ []) (500 ∷ 600 ∷ []) (2 ∷ 3 ∷ []) 3 0
-    ∷ numbers 0 512 2 (1 ∷ 1 ∷ []) (500 ∷ 600 ∷ []) (2 ∷ 3 ∷ []) 3 0
-    ∷ numbers 0 512 2 (0 ∷ 1 ∷ []) (500 ∷ 0 ∷ []) (2 ∷ 3 ∷ []) 3 0
-    ∷ numbers 0 512 2 (0 ∷ 1 ∷ []) (500 ∷ 1_073_741_825 ∷ []) (2 ∷ 3 ∷ []) 3 0
-    ∷ numbers 0 512 2 (0 ∷ 1 ∷ []) (500 ∷ 600 ∷ []) (2 ∷ 4 ∷ []) 3 0
-    ∷ numbers 0 512 2 (0 ∷ 1 ∷ []) (500 ∷ 600 ∷ []) (2 ∷ 33 ∷ []) 33 0
-    ∷ numbers 0 512 2 (0 ∷ 1 ∷ []) (500 ∷ 600 ∷ []) (2 ∷ 3 ∷ []) 3 1
-    ∷ numbers 0 512 2 (0 ∷ 1 ∷ []) (500 ∷ 600 ∷ []) (2 ∷ 3 ∷ []) 3 256
+    numbers 2 3 512 2 (0 ∷ 1 ∷ []) (500 ∷ 600 ∷ []) (2 ∷ 3 ∷ []) 3 0
+    ∷ numbers 0 2 512 2 (0 ∷ 1 ∷ []) (500 ∷ 600 ∷ []) (2 ∷ 3 ∷ []) 3 0
+    ∷ numbers 0 5 512 2 (0 ∷ 1 ∷ []) (500 ∷ 600 ∷ []) (2 ∷ 3 ∷ []) 3 0
+    ∷ numbers 0 3 256 2 (0 ∷ 1 ∷ []) (500 ∷ 600 ∷ []) (2 ∷ 3 ∷ []) 3 0
+    ∷ numbers 0 3 768 2 (0 ∷ 1 ∷ []) (500 ∷ 600 ∷ []) (2 ∷ 3 ∷ []) 3 0
+    ∷ numbers 0 3 8_388_608 2 (0 ∷ 1 ∷ []) (500 ∷ 600 ∷ []) (2 ∷ 3 ∷ []) 3 0
+    ∷ numbers 0 3 512 0 (0 ∷ 1 ∷ []) (500 ∷ 600 ∷ []) (2 ∷ 3 ∷ []) 3 0
+    ∷ numbers 0 3 512 65 (0 ∷ 1 ∷ []) (500 ∷ 600 ∷ []) (2 ∷ 3 ∷ []) 3 0
+    ∷ numbers 0 3 512 2 (0 ∷ 2_147_483_648 ∷ []) (500 ∷ 600 ∷ []) (2 ∷ 3 ∷ []) 3 0
+    ∷ numbers 0 3 512 2 (1 ∷ 1 ∷ []) (500 ∷ 600 ∷ []) (2 ∷ 3 ∷ []) 3 0
+    ∷ numbers 0 3 512 2 (0 ∷ 1 ∷ []) (500 ∷ 0 ∷ []) (2 ∷ 3 ∷ []) 3 0
+    ∷ numbers 0 3 512 2 (0 ∷ 1 ∷ []) (500 ∷ 1_073_741_825 ∷ []) (2 ∷ 3 ∷ []) 3 0
+    ∷ numbers 0 3 512 2 (0 ∷ 1 ∷ []) (500 ∷ 600 ∷ []) (2 ∷ 4 ∷ []) 3 0
+    ∷ numbers 0 4 512 2 (0 ∷ 1 ∷ []) (500 ∷ 600 ∷ []) (0 ∷ 3 ∷ []) 3 0
+    ∷ numbers 0 4 512 2 (0 ∷ 1 ∷ []) (500 ∷ 600 ∷ []) (3 ∷ 0 ∷ []) 3 0
+    ∷ numbers 0 3 512 2 (0 ∷ 1 ∷ []) (500 ∷ 600 ∷ []) (2 ∷ 33 ∷ []) 33 0
+    ∷ numbers 0 3 512 2 (0 ∷ 1 ∷ []) (500 ∷ 600 ∷ []) (2 ∷ 3 ∷ []) 3 1
+    ∷ numbers 0 3 512 2 (0 ∷ 1 ∷ []) (500 ∷ 600 ∷ []) (2 ∷ 3 ∷ []) 3 256
     ∷ []
 
 -- sound ones, at the ends of what is allowed
 abbrev pub sound : List Numbers17
 sound =
-    numbers 1 512 2 (0 ∷ 2_147_483_647 ∷ []) (1 ∷ 1_073_741_824 ∷ []) (2 ∷ 3 ∷ []) 3 0
-    ∷ numbers 0 4_194_304 2 (1 ∷ 0 ∷ []) (500 ∷ 600 ∷ []) (32 ∷ 0 ∷ []) 32 0
+    numbers 1 3 512 2 (0 ∷ 2_147_483_647 ∷ []) (1 ∷ 1_073_741_824 ∷ []) (2 ∷ 3 ∷ []) 3 0
+    ∷ numbers 0 3 4_194_304 2 (1 ∷ 0 ∷ []) (500 ∷ 600 ∷ []) (32 ∷ 0 ∷ []) 32 0
+    ∷ numbers 1 4 512 2 (0 ∷ 1 ∷ []) (500 ∷ 600 ∷ []) (1 ∷ 3 ∷ []) 3 0
     ∷ []
 
 -- K is over every count or equal to it, and at least 1; maxchunks is the greatest count, and may be 0
 abbrev pub chunksOver : Numbers17
-chunksOver = numbers 0 512 2 (0 ∷ 1 ∷ []) (500 ∷ 600 ∷ []) (2 ∷ 1 ∷ []) 3 0
+chunksOver = numbers 0 3 512 2 (0 ∷ 1 ∷ []) (500 ∷ 600 ∷ []) (2 ∷ 1 ∷ []) 3 0
 
 abbrev pub chunksNone : Numbers17
-chunksNone = numbers 0 512 2 (0 ∷ 1 ∷ []) (500 ∷ 600 ∷ []) (0 ∷ 0 ∷ []) 0 0
+chunksNone = numbers 0 3 512 2 (0 ∷ 1 ∷ []) (500 ∷ 600 ∷ []) (0 ∷ 0 ∷ []) 0 0
 
 -- n is at least 1, whatever else is right
 abbrev pub tasksNone : Numbers17
-tasksNone = numbers 0 512 0 [] [] [] 0 0
+tasksNone = numbers 0 3 512 0 [] [] [] 0 0
 
 unfoldable pub orderTable : List Row
 orderTable =
@@ -196,30 +204,31 @@ orderTable =
     ∷ loadOf 12 2064 1
     ∷ [])
     (1 ∷ 2 ∷ 3 ∷ 4 ∷ 5 ∷ 6 ∷ 7 ∷ 3 ∷ 8 ∷ 9 ∷ 10 ∷ 11 ∷ 12 ∷ 12 ∷ 18 ∷ 13 ∷ 0 ∷ [])
-    -- opening: "2, 5, 6, 21, 8, 9, 20, 18"
+    -- opening: "2, 5, 6, 21, 8, 9, 20, 18", and 4 "right after 2"
     ∷ row
-    (openOf 2 768 (3 ∷ 3 ∷ []) (0 ∷ []) 1025 33 6207 5
-    ∷ openOf 0 768 (3 ∷ 3 ∷ []) (0 ∷ []) 1025 33 6207 5
-    ∷ openOf 0 512 (3 ∷ 3 ∷ []) (0 ∷ []) 1025 33 6207 5
-    ∷ openOf 0 512 (3 ∷ 3 ∷ []) (0 ∷ 600 ∷ []) 1025 33 6207 5
-    ∷ openOf 0 512 (3 ∷ 3 ∷ []) (0 ∷ 600 ∷ []) 1024 33 6207 5
-    ∷ openOf 0 512 (3 ∷ 4 ∷ []) (0 ∷ 600 ∷ []) 1024 33 6207 5
-    ∷ openOf 0 512 (3 ∷ 4 ∷ []) (500 ∷ 600 ∷ []) 1024 33 6207 5
-    ∷ openOf 0 512 (3 ∷ 4 ∷ []) (500 ∷ 600 ∷ []) 1024 3 6207 5
-    ∷ openOf 0 512 (3 ∷ 4 ∷ []) (500 ∷ 600 ∷ []) 1024 3 6208 5
-    ∷ openOf 0 512 (3 ∷ 4 ∷ []) (500 ∷ 600 ∷ []) 1024 3 6208 6
+    (openOf 2 5 768 (3 ∷ 3 ∷ []) (0 ∷ []) 1025 33 6207 5
+    ∷ openOf 0 5 768 (3 ∷ 3 ∷ []) (0 ∷ []) 1025 33 6207 5
+    ∷ openOf 0 3 768 (3 ∷ 3 ∷ []) (0 ∷ []) 1025 33 6207 5
+    ∷ openOf 0 3 512 (3 ∷ 3 ∷ []) (0 ∷ []) 1025 33 6207 5
+    ∷ openOf 0 3 512 (3 ∷ 3 ∷ []) (0 ∷ 600 ∷ []) 1025 33 6207 5
+    ∷ openOf 0 3 512 (3 ∷ 3 ∷ []) (0 ∷ 600 ∷ []) 1024 33 6207 5
+    ∷ openOf 0 3 512 (3 ∷ 4 ∷ []) (0 ∷ 600 ∷ []) 1024 33 6207 5
+    ∷ openOf 0 3 512 (3 ∷ 4 ∷ []) (500 ∷ 600 ∷ []) 1024 33 6207 5
+    ∷ openOf 0 3 512 (3 ∷ 4 ∷ []) (500 ∷ 600 ∷ []) 1024 3 6207 5
+    ∷ openOf 0 3 512 (3 ∷ 4 ∷ []) (500 ∷ 600 ∷ []) 1024 3 6208 5
+    ∷ openOf 0 3 512 (3 ∷ 4 ∷ []) (500 ∷ 600 ∷ []) 1024 3 6208 6
     ∷ [])
-    (2 ∷ 5 ∷ 6 ∷ 21 ∷ 8 ∷ 9 ∷ 20 ∷ 18 ∷ 18 ∷ 0 ∷ [])
+    (2 ∷ 4 ∷ 5 ∷ 6 ∷ 21 ∷ 8 ∷ 9 ∷ 20 ∷ 18 ∷ 18 ∷ 0 ∷ [])
     -- no task before 21; the order 3; one size too many or too few; a prefix of 1,025 bytes; a rank over the greatest; no K
     ∷ row
-    (openOf 0 512 [] [] 1025 3 6208 6
-    ∷ openOf 3 512 (3 ∷ 4 ∷ []) (500 ∷ 600 ∷ []) 0 3 6208 6
-    ∷ openOf 1 512 (3 ∷ 4 ∷ []) (500 ∷ 600 ∷ 1 ∷ []) 0 3 6208 6
-    ∷ openOf 1 512 (3 ∷ 4 ∷ []) (500 ∷ []) 0 3 6208 6
-    ∷ openOf 1 512 (3 ∷ 4 ∷ []) (500 ∷ 600 ∷ []) 1025 3 6208 6
-    ∷ openOf 1 512 (3 ∷ 2_147_483_648 ∷ []) (500 ∷ 600 ∷ []) 0 3 6208 6
-    ∷ openOf 1 512 (3 ∷ 4 ∷ []) (500 ∷ 600 ∷ []) 0 0 6208 6
-    ∷ openOf 1 512 (3 ∷ 4 ∷ []) (500 ∷ 600 ∷ []) 0 3 6208 6
+    (openOf 0 3 512 [] [] 1025 3 6208 6
+    ∷ openOf 3 3 512 (3 ∷ 4 ∷ []) (500 ∷ 600 ∷ []) 0 3 6208 6
+    ∷ openOf 1 3 512 (3 ∷ 4 ∷ []) (500 ∷ 600 ∷ 1 ∷ []) 0 3 6208 6
+    ∷ openOf 1 3 512 (3 ∷ 4 ∷ []) (500 ∷ []) 0 3 6208 6
+    ∷ openOf 1 3 512 (3 ∷ 4 ∷ []) (500 ∷ 600 ∷ []) 1025 3 6208 6
+    ∷ openOf 1 3 512 (3 ∷ 2_147_483_648 ∷ []) (500 ∷ 600 ∷ []) 0 3 6208 6
+    ∷ openOf 1 3 512 (3 ∷ 4 ∷ []) (500 ∷ 600 ∷ []) 0 0 6208 6
+    ∷ openOf 1 3 512 (3 ∷ 4 ∷ []) (500 ∷ 600 ∷ []) 0 3 6208 6
     ∷ [])
     (6 ∷ 2 ∷ 6 ∷ 6 ∷ 21 ∷ 8 ∷ 20 ∷ 0 ∷ [])
     -- a write: "17, 18, 19, 14, empty accepted, 15, 16"; 513 bytes are more than a chunk holds, 503 more than is left of it, and 502 fill it
@@ -278,9 +287,9 @@ orderTable =
     ∷ [])
     (17 ∷ 18 ∷ 19 ∷ 14 ∷ 23 ∷ 0 ∷ [])
     -- 17, for each rule of a record, and not for the sound ones
-    ∷ row (map sessionNumber broken) (replicate 14 17)
-    ∷ row (map loadedNumber broken) (replicate 14 17)
-    ∷ row (map sessionNumber sound ++ map loadedNumber sound) (replicate 4 18)
+    ∷ row (map sessionNumber broken) (replicate 18 17)
+    ∷ row (map loadedNumber broken) (replicate 18 17)
+    ∷ row (map sessionNumber sound ++ map loadedNumber sound) (replicate 6 18)
     ∷ row
     (sessionNumber chunksOver ∷ loadedNumber chunksOver ∷ sessionNumber chunksNone ∷ loadedNumber chunksNone ∷ loadedNumber tasksNone ∷ [])
     (18 ∷ 17 ∷ 17 ∷ 18 ∷ 17 ∷ [])

@@ -7,6 +7,7 @@ use lib.IntN.{ℤ}
 use lib.ListN.{length}
 use Rattle.format.specs.Limits.{maxBlocks, Sound}
 use Rattle.format.specs.declared.head.Head.{Head}
+use Rattle.format.specs.Meta2.{leastCount}
 use Rattle.format.specs.Record.{allLists, sizesOf, sizeOf, countOf, headSound, endAt, cellsAgree}
 use Rattle.format.specs.Reads.{Container}
 
@@ -14,7 +15,7 @@ use Rattle.format.specs.Reads.{Container}
 pub record Passed (h : Head) (lists : List ℕ) (m : ℕ) (image : List ℕ) (table : List ℤ) : Type 0 where
   pub head : headSound h lists ≡ true
   pub few : m ≤ maxBlocks
-  pub counts : (i : ℕ) → i < h .n → countOf lists i ≤ m
+  pub counts : (i : ℕ) → i < h .n → (leastCount (h .format) ≤ countOf lists i) × (countOf lists i ≤ m)
   pub image-long : endAt h (sizeOf lists) m ≤ length image
   pub table-long : h .n * m ≤ length table
   pub agree : cellsAgree h lists m table ≡ true

@@ -10,7 +10,7 @@ use lib.ListN.{length, getD, take, drop, replicate}
 use Rattle.lists.specs.Below.{listBelow}
 use Rattle.lists.specs.Splice.{splice}
 use Rattle.endian.specs.Signed.{within}
-use Rattle.format.specs.Limits.{maxTasks, blocksizeRule, tasksRule, ranksRule, sizesRule}
+use Rattle.format.specs.Limits.{maxTasks, formatRule, blocksizeRule, tasksRule, ranksRule, sizesRule}
 use Rattle.format.specs.Layout.{capacity, chunkStart, meta2Start, meta2End}
 use Rattle.format.specs.declared.head.Head.{Head}
 use Rattle.format.specs.Refusals.{Test, test}
@@ -99,6 +99,7 @@ module _ (h : Head) (size : ℕ → ℕ) where
 unfoldable pub headSound : Head → List ℕ → Bool
 headSound h lists =
     isOrder (h .order)
+    && formatRule (pos (h .format))
     && blocksizeRule (pos (h .blocksize))
     && tasksRule (pos (h .n))
     && ranksRule (h .n) (λ i. pos (rankOf lists i))
@@ -126,9 +127,10 @@ isTask n task = within 1 n (pos task)
 
 -- ---- the place where a head is made
 
-abbrev pub headOf : ℕ → ℤ → ℤ → ℕ → ℕ → Head
-headOf order version patch blocksize n = record { order = order; version = version; patch = patch; blocksize = blocksize; n = n }
+abbrev pub headOf : ℕ → ℤ → ℤ → ℕ → ℕ → ℕ → Head
+headOf order version patch format blocksize n =
+    record { order = order; version = version; patch = patch; format = format; blocksize = blocksize; n = n }
 
 -- the head of "a record of zeros"
 abbrev pub noHead : Head
-noHead = headOf 0 (pos 0) (pos 0) 0 0
+noHead = headOf 0 (pos 0) (pos 0) 0 0 0

@@ -3,13 +3,14 @@
 use mathlib.Core.Bool.{Bool, _&&_}
 use mathlib.Core.List.{List}
 use Prim.Native.Nat.{ℕ}
-use lib.Dec.{leb}
 use lib.IntN.{ℤ, pos}
 use lib.ListN.{set}
 use Rattle.lists.specs.Below.{allBelow}
+use Rattle.endian.specs.Signed.{within}
 use Rattle.format.specs.Limits.{plannedRule}
 use Rattle.format.specs.declared.head.Head.{Head}
 use Rattle.format.specs.Refusals.{Test}
+use Rattle.format.specs.Meta2.{leastCount}
 use Rattle.format.specs.Record.{countOf, countAt, headSound, recordTests, noHead}
 use Rattle.format.specs.declared.session.Session.{Session}
 
@@ -22,10 +23,12 @@ pub record State : Type 0 where
 abbrev pub stateOf : Session → List ℕ → List ℕ → List ℤ → State
 stateOf session lists image table = record { session = session; lists = lists; image = image; table = table }
 
--- "A record is unsound if its fields break the rules above (a session's counts are at most K; ..)"
+-- "A record is unsound if its fields break the rules above (a session's counts are at most K; ..)"; in version 4 they are at least 1
 unfoldable pub sessionSound : Session → List ℕ → Bool
 sessionSound s lists =
-    headSound (s .head) lists && plannedRule (pos (s .planned)) && allBelow (s .head .n) (λ i. leb (countOf lists i) (s .planned))
+    headSound (s .head) lists
+    && plannedRule (pos (s .planned))
+    && allBelow (s .head .n) (λ i. within (leastCount (s .head .format)) (s .planned) (pos (countOf lists i)))
 
 -- "17, 18, 19"
 unfoldable pub sessionTests : State → List Test

@@ -3,12 +3,13 @@
 use mathlib.Core.Bool.{cond, not, _&&_}
 use mathlib.Core.Path.{_≡_}
 use mathlib.Core.List.{List, [], _∷_, map}
-use Prim.Native.Nat.{ℕ, _+_, _-_, _<_}
+use Prim.Native.Nat.{ℕ, _+_, _-_, _<_, max}
 use lib.Dec.{ltb, leb, eqb}
 use lib.IntN.{pos}
 use lib.ListN.{length, getD}
 use Rattle.endian.specs.Signed.{within}
 use Rattle.format.specs.Layout.{capacity, chunkStart}
+use Rattle.format.specs.Meta2.{leastCount}
 use Rattle.format.specs.Record.{entry}
 use Rattle.format.specs.Open.{Opening, tasks}
 use Rattle.format.specs.Write.{Request}
@@ -45,6 +46,10 @@ fed qs = map fedOf qs
 pub record Tally : Type 0 where
   pub u : ℕ
   pub w : ℕ
+
+-- what the session's count of the task is then, by the format: u, and in version 4 the greater of u and 1 (W-209)
+unfoldable pub countBy : ℕ → Tally → ℕ
+countBy format x = max (x .u) (leastCount format)
 
 -- what becomes of a write: it is refused with a number, it is empty, its bytes go on in the chunk in use, or they begin the next one
 pub data Outcome : Type 0 where

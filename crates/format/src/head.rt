@@ -9,12 +9,13 @@ pub const COUNTS: usize = 2 * MAX_TASKS;
 
 pub const LISTS: usize = 3 * MAX_TASKS;
 
-// `order` is 0 for little and 1 for big.
+// `order` is 0 for little and 1 for big; `format` is fileformat_version.
 #[repr(C)]
 pub struct Head {
     pub order: u32,
     pub version: i32,
     pub patch: i32,
+    pub format: u32,
     pub blocksize: u32,
     pub n: u32,
 }

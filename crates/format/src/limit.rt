@@ -1,4 +1,9 @@
-// The limits of document 01, "Numbers that bound the work", each once.
+// The limits of document 01, "Numbers that bound the work", and the two values of fileformat_version (W-209), each once.
+pub const PLAIN_FORMAT: u32 = 3;
+
+// In this one a task that wrote nothing has a chunk in use all the same, with no bytes.
+pub const IDLE_FORMAT: u32 = 4;
+
 pub const MAX_TASKS: usize = 64;
 
 pub const MIN_BLOCKSIZE: u32 = 512;

@@ -11,12 +11,13 @@ pub struct Session {
     pub closed: u32,
 }
 
-// What an opening is given beside ranks, sizes and prefix; `order` is 0 for little and 1 for big.
+// What an opening is given beside ranks, sizes and prefix; `order` is 0 for little and 1 for big, `format` is fileformat_version.
 #[repr(C)]
 pub struct Plan {
     pub order: u32,
     pub version: i32,
     pub patch: i32,
+    pub format: u32,
     pub blocksize: u32,
     pub planned: u32,
 }

@@ -222,3 +222,22 @@ splice-other xs at vs x d fits none = go (ltb x at) refl (leb (at + length vs) x
     go true e v f = getD-splice-out xs at vs fits x d (inl (ltb-true _ _ e))
     go false e true f = getD-splice-out xs at vs fits x d (inr (leb-true _ _ f))
     go false e false f = absurd (none (x - at) (omega (arith, leb-false)) (omega (arith, ltb-false)))
+
+-- two lists that have the same element at a place have it there after the same is put into both
+pub splice-agree {ℓ} : {A : Type ℓ} (xs ys : List A) (at : ℕ) (vs : List A) (x : ℕ) (d : A) → at + length vs ≤ length xs → at + length vs ≤ length ys
+    → getD xs x d ≡ getD ys x d → getD (splice xs at vs) x d ≡ getD (splice ys at vs) x d
+splice-agree xs ys at vs x d fits fits′ same = go (ltb x at) refl (leb (at + length vs) x) refl
+  where
+    out : (x < at) ⊎ (at + length vs ≤ x) → getD (splice xs at vs) x d ≡ getD (splice ys at vs) x d
+    out past = getD-splice-out xs at vs fits x d past ∙ same ∙ sym (getD-splice-out ys at vs fits′ x d past)
+
+    go : (u : Bool) → ltb x at ≡ u → (v : Bool) → leb (at + length vs) x ≡ v → getD (splice xs at vs) x d ≡ getD (splice ys at vs) x d
+    go true e v f = out (inl (ltb-true _ _ e))
+    go false e true f = out (inr (leb-true _ _ f))
+    go false e false f =
+        let in-at : x ≡ at + (x - at) = omega (arith, ltb-false) in
+        let l : x - at < length vs = omega (arith, leb-false, ltb-false) in
+        ap (λ (i : ℕ). getD (splice xs at vs) i d) in-at
+        ∙ getD-splice-in xs at vs fits (x - at) d l
+        ∙ sym (getD-splice-in ys at vs fits′ (x - at) d l)
+        ∙ ap (λ (i : ℕ). getD (splice ys at vs) i d) (sym in-at)

@@ -21,7 +21,7 @@ use Rattle.format.specs.declared.head.Head.{Head}
 use Rattle.meta1.specs.declared.Fixed.{Fixed}
 use Rattle.meta1.specs.declared.Last.{Last}
 use Rattle.format.specs.Refusals.{test, firstFailing}
-use Rattle.format.specs.Meta2.{meta2Part, countField, valueField, countsRule}
+use Rattle.format.specs.Meta2.{meta2Part, countField, valueField, leastCount, countsRule}
 use Rattle.format.specs.Record.{sizesOf, sizeOf, listsOf, filled, noLists, isBig, holds, meta2At, endAt, withCounts}
 use Rattle.format.specs.Judge.{tasksIn, maxchunksIn, headIn, rankIn, sizeIn, meta2In, fixedTests, restTests, meta1Tests, listTests, lastTests, countIn, valuesIn, meta2Tests}
 use Rattle.meta1.specs.Judging.{fixedGives, restGives, listsRead, HeadRead}
@@ -133,7 +133,7 @@ unfolding meta2Tests
 meta2-agree h size size′ m part same =
     let count = countIn h part in
     let value = valueField (isBig h) part (h .n) in
-    ap (λ (b : Bool). firstFailing (test 13 (not (countsRule (h .n) m (countField (isBig h) part) && b)) ∷ []))
+    ap (λ (b : Bool). firstFailing (test 13 (not (countsRule (h .format) (h .n) m (countField (isBig h) part) && b)) ∷ []))
     (values-agree (h .n) m (holds h size) (holds h size′) count count value value (holds-agree h size size′ same) (λ i l. refl) (λ j l. refl))
 
 -- the counts that are read without a sign, where test 13 passes
@@ -144,8 +144,8 @@ counts-are h size m part small zero =
     let f : ℕ → ℕ = λ i. numberAt (isBig h) 8 part (8 * i) in
     let range = and-left _ _ (meta2-holds h size m part zero .counts) in
     filled-cong (h .n) f (countIn h part)
-    (natural-unsigned (signBit 8) (h .n) f f (λ i l. refl) 0 m (omega arith)
-    (all-unsigned (signBit 8) (h .n) f f (λ i l. refl) 0 m (omega arith) ∙ range))
+    (natural-unsigned (signBit 8) (h .n) f f (λ i l. refl) (leastCount (h .format)) m (omega arith)
+    (all-unsigned (signBit 8) (h .n) f f (λ i l. refl) (leastCount (h .format)) m (omega arith) ∙ range))
 
 -- what the code has of META1: the head, maxchunks and META2's start, and lists with no count
 pub record Found (image : List ℕ) (h : Head) (last : Last) (lists : List ℕ) : Type 0 where

@@ -15,7 +15,7 @@ use Rattle.lists.specs.Below.{allBelow}
 use Rattle.endian.specs.Signed.{signed, within, natural}
 use Rattle.lists.proofs.Below.{and-left}
 use Rattle.endian.proofs.Signed.{natural-signed}
-use Rattle.format.specs.Limits.{maxTasks, maxRank, maxSize, blocksizeRule, tasksRule, maxchunksRule, allDifferent, ranksRule, sizesRule}
+use Rattle.format.specs.Limits.{formatRule, maxTasks, maxRank, maxSize, blocksizeRule, tasksRule, maxchunksRule, allDifferent, ranksRule, sizesRule}
 use Rattle.format.specs.Layout.{meta1End, meta2End}
 use Rattle.format.proofs.Power.{blocksize-facts}
 use Rattle.format.proofs.Chunks.{meta2End-small}
@@ -32,6 +32,7 @@ use Rattle.format.proofs.Refusals.{Numbered, first-passes, first-fails, both-pa
 use Rattle.format.proofs.Stripes.{length-lists, length-sizes, rank-made, size-made}
 use Rattle.format.proofs.Record.{isBig-order, meta2At-agree, endAt-agree}
 use Rattle.format.proofs.Rules.{blocksize-natural, tasks-natural}
+use Rattle.format.proofs.Formats.{format-facts, format-number}
 use Rattle.format.proofs.Fields.{is-number, blocksize-number, tasks-number, maxchunks-number, tasks-facts, maxchunks-facts, passed-agree}
 use Rattle.format.proofs.Filled.{filled-cong}
 use Rattle.format.proofs.Unsigned.{all-unsigned, natural-unsigned, ranks-unsigned, sizes-unsigned}
@@ -110,16 +111,26 @@ module _ (xs : List ℕ) (len : ℕ) where
   fixed-head z = ap (λ (f : Fixed). f .head) (when-accepted _ _ _ z)
 
   -- the fields that are read are those of the head
-  pub fields-read : {big : Bool} {b n : ℕ} → FieldsRead xs big b n → firstFailing (fieldTests xs len) ≡ 0
-      → headOf (orderOf big) (versionField big xs) (patchField big xs) b n ≡ headIn xs
+  pub fields-read : {big : Bool} {v b n : ℕ} → FieldsRead xs big v b n → firstFailing (fieldTests xs len) ≡ 0
+      → headOf (orderOf big) (versionField big xs) (patchField big xs) v b n ≡ headIn xs
   unfolding headIn tasksIn fieldTests
-  fields-read {big} {b} {n} p zero =
+  fields-read {big} {v} {b} {n} p zero =
       let (format, (block, (tasks, rest))) = none-fails (fieldTests xs len) field-numbered zero in
+      let formed : formatRule (signed 31 v) ≡ true = rw (p .format-is, p .order-is) (not-false _ format) in
       let blocked : blocksizeRule (signed 31 b) ≡ true = rw (p .blocksize-is, p .order-is) (not-false _ block) in
       let counted : tasksRule (signed 31 n) ≡ true = rw (p .tasks-are, p .order-is) (not-false _ tasks) in
+      let known : v < 2 ^ 31 = omega (arith, format-facts v (sym (format-number v) ∙ formed)) in
       let small : b < 2 ^ 31 = omega (arith, blocksize-facts b (sym (blocksize-number b) ∙ blocked)) in
       let few : n < 2 ^ 31 = omega (arith, tasks-facts n (sym (tasks-number n) ∙ counted)) in
-      rw (sym (p .order-is), sym (p .blocksize-is), sym (p .tasks-are), natural-signed 31 b small, natural-signed 31 n few)
+      rw (
+        sym (p .order-is),
+        sym (p .format-is),
+        sym (p .blocksize-is),
+        sym (p .tasks-are),
+        natural-signed 31 v known,
+        natural-signed 31 b small,
+        natural-signed 31 n few,
+      )
 
 -- ---- the head that the fixed fields gave
 module _ {xs : List ℕ} {len : ℕ} {h : Head} (p : HeadRead xs len h) where

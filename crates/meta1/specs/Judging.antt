@@ -47,10 +47,11 @@ listsRead xs h =
 
 -- ---- what is known of the first bytes as they are judged
 
--- blocksize and ntasks are read, without a sign
-pub record FieldsRead (xs : List ℕ) (big : Bool) (blocksize n : ℕ) : Type 0 where
+-- fileformat_version, blocksize and ntasks are read, without a sign
+pub record FieldsRead (xs : List ℕ) (big : Bool) (format blocksize n : ℕ) : Type 0 where
   pub order-is : big ≡ bigIn xs
   pub long : Meta1.fixedLength ≤ length xs
+  pub format-is : format ≡ numberAt big 4 xs 16
   pub blocksize-is : blocksize ≡ numberAt big 4 xs 20
   pub tasks-are : n ≡ numberAt big 4 xs 24
 

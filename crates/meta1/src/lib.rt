@@ -117,11 +117,11 @@ fn judge_start(xs: &[u8], len: u64) -> Start
 }
 
 // Tests 4, 5, 6, 7 and again 3: the fixed fields, and that the lists and the last two fields are there.
-fn field_refusal(xs: &[u8], len: u64, big: bool, blocksize: u32, n: u32) -> u32
-    requires { ⌜ FieldsRead (now xs) big blocksize n ⌝ }
+fn field_refusal(xs: &[u8], len: u64, big: bool, format: u32, blocksize: u32, n: u32) -> u32
+    requires { ⌜ FieldsRead (now xs) big format blocksize n ⌝ }
     ensures { λ r. ⌜ r ≡ firstFailing (fieldTests (now (xs .entry)) len) ⌝ }
 {
-    if !field_is(xs, field::FORMAT_AT, big, field::FORMAT) {
+    if !limits::format_ok(format) {
         return refusal::BAD_FORMAT;
     }
     if !limits::blocksize_ok(blocksize) {
@@ -159,9 +159,10 @@ pub fn judge_fixed(xs: &[u8], len: u64) -> Fixed
         return no_fixed(start.refusal);
     }
     let big = start.big;
+    let format = read::get_u32(xs, field::FORMAT_AT, big);
     let blocksize = read::get_u32(xs, field::BLOCKSIZE_AT, big);
     let n = read::get_u32(xs, field::TASKS_AT, big);
-    let refusal = field_refusal(xs, len, big, blocksize, n);
+    let refusal = field_refusal(xs, len, big, format, blocksize, n);
     if refusal != 0 {
         return no_fixed(refusal);
     }
@@ -174,6 +175,7 @@ pub fn judge_fixed(xs: &[u8], len: u64) -> Fixed
             order,
             version,
             patch,
+            format,
             blocksize,
             n,
         },

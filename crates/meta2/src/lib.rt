@@ -1,7 +1,6 @@
 // META2, the second metadata block: its counts and values judged from its own part of the image, and its values put into a table.
 ghost use mathlib.Core.Path.{_≡_};
 ghost use Prim.Native.Nat.{_+_, _*_, _≤_};
-ghost use lib.IntN.{pos};
 ghost use lib.ListN.{length, getD};
 ghost use Rattle.lists.specs.Below.{listBelow};
 ghost use Rattle.endian.specs.Number.{numberAt};
@@ -20,7 +19,6 @@ use format::head;
 use format::head::Head;
 use format::limit;
 use format::refusal;
-use rules::heads;
 
 // So many values are decoded at a time to be judged.
 const TILE: usize = 128;
@@ -97,7 +95,7 @@ fn judge_read(part: &[u8], h: Head, maxchunks: u32, lists: &[u64]) -> u32
     let big = h.order == 1;
     let n = h.n as usize;
     let counts = &lists[head::COUNTS..head::LISTS];
-    if !heads::counts_ok(counts, n, maxchunks) {
+    if !tables::counts_ok(counts, n, h.format, maxchunks) {
         return refusal::BAD_META2;
     }
     let sizes = &lists[head::SIZES..head::COUNTS];

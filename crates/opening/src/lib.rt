@@ -1,18 +1,19 @@
 // Opening a session: its tests, its record, and what it stores into the image and the table.
 ghost use mathlib.Core.Path.{_≡_};
-ghost use Prim.Native.Nat.{_+_, _≤_};
+ghost use Prim.Native.Nat.{_+_, _-_, _*_, _≤_};
+ghost use lib.IntN.{pos};
 ghost use lib.ListN.{length, replicate};
 ghost use Rattle.lists.specs.Below.{listBelow};
 ghost use Rattle.lists.specs.Splice.{splice};
-ghost use Rattle.format.specs.Limits.{maxTasks};
+ghost use Rattle.format.specs.Limits.{maxTasks, maxBlocks};
 ghost use Rattle.format.specs.Refusals.{firstFailing};
-ghost use Rattle.format.specs.Meta2.{unused};
-ghost use Rattle.format.specs.Record.{entry, listsOf, noLists};
+ghost use Rattle.format.specs.Record.{entry, countAt, listsOf, withCounts, noLists};
 ghost use Rattle.format.specs.declared.session.Plan.{Plan};
 ghost use Rattle.format.specs.declared.session.Needed.{Needed};
 ghost use Rattle.format.specs.declared.session.Opened.{Opened};
 ghost use Rattle.format.specs.Session.{noSession};
-ghost use Rattle.format.specs.Open.{openingOf, shapeTests, numberTests, needsAnswer, openRefusal, openAnswer, openImage, openTable};
+ghost use Rattle.format.specs.Meta2.{unused};
+ghost use Rattle.format.specs.Open.{openingOf, shapeTests, blankCells, numberTests, needsAnswer, openRefusal, openAnswer, openImage, openTable};
 use format::field;
 use format::head;
 use format::head::Head;
@@ -43,12 +44,22 @@ fn no_session(refusal: u32) -> Opened
     }
 }
 
-// Tests 2, 5, 6 and 21.
-fn shape_refusal(order: u32, blocksize: u32, ranks: usize, sizes: usize, prefix: usize) -> u32
-    ensures { λ r. ⌜ r ≡ firstFailing (shapeTests order blocksize ranks sizes prefix) ⌝ }
+// Tests 2, 4, 5, 6 and 21.
+fn shape_refusal(
+    order: u32,
+    format: u32,
+    blocksize: u32,
+    ranks: usize,
+    sizes: usize,
+    prefix: usize,
+) -> u32
+    ensures { λ r. ⌜ r ≡ firstFailing (shapeTests order format blocksize ranks sizes prefix) ⌝ }
 {
     if 1 < order {
         return refusal::NO_ORDER;
+    }
+    if !limits::format_ok(format) {
+        return refusal::BAD_FORMAT;
     }
     if !limits::blocksize_ok(blocksize) {
         return refusal::BAD_BLOCKSIZE;
@@ -96,12 +107,13 @@ fn no_need(refusal: u32) -> Needed
     }
 }
 
-// The lengths that an opening requires of image and table, or the refusal of its plan: tests 2, 5, 6, 21, 8, 9 and 20, in this order.
+// The lengths that an opening requires of image and table, or the refusal of its plan: tests 2, 4, 5, 6, 21, 8, 9 and 20, in this order.
 pub fn needs(plan: Plan, ranks: &[u64], sizes: &[u64], prefix: &[u8]) -> Needed
     ensures { λ r. ⌜ r ≡ needsAnswer (openingOf plan (now (ranks .entry)) (now (sizes .entry)) (now (prefix .entry))) ⌝ }
 {
     let shape = shape_refusal(
         plan.order,
+        plan.format,
         plan.blocksize,
         ranks.len(),
         sizes.len(),
@@ -159,31 +171,65 @@ fn put_stripe(lists: &mut [u64], at: usize, values: &[u64])
     }
 }
 
-// The lists of a session that has begun no chunk.
-fn lists_of(ranks: &[u64], sizes: &[u64]) -> [u64; LISTS]
+// The same count for each of n tasks.
+fn put_counts(lists: &mut [u64], n: usize, count: u64)
+    requires { ⌜ countAt n ≤ length (now lists) ⌝ }
+    ensures { λ _. ⌜ now (lists .exit) ≡ withCounts (now (lists .entry)) n (λ i. count) ⌝ }
+{
+    let mut i = 0;
+    while i < n {
+        lists[head::COUNTS + i] = count;
+        i += 1;
+    }
+}
+
+// The lists of a session whose tasks have each begun so many chunks.
+fn lists_of(ranks: &[u64], sizes: &[u64], begun: u64) -> [u64; LISTS]
     requires { ⌜ (length (now ranks) ≤ maxTasks) × (length (now sizes) ≡ length (now ranks)) ⌝ }
-    ensures { λ r. ⌜ r ≡ listsOf (length (now (ranks .entry))) (entry (now (ranks .entry))) (entry (now (sizes .entry))) (λ i. 0) ⌝ }
+    ensures { λ r. ⌜ r ≡ listsOf (length (now (ranks .entry))) (entry (now (ranks .entry))) (entry (now (sizes .entry))) (λ i. begun) ⌝ }
 {
     let mut lists = [0; LISTS];
     put_stripe(&mut lists, 0, ranks);
     put_stripe(&mut lists, head::SIZES, sizes);
+    put_counts(&mut lists, ranks.len(), begun);
     lists
 }
 
-// -1 into the first cells.
-fn mark_unused(table: &mut [i64], cells: usize)
+// 0 into the first cells.
+fn mark_begun(table: &mut [i64], cells: usize)
     requires { ⌜ cells ≤ length (now table) ⌝ }
-    ensures { λ _. ⌜ now (table .exit) ≡ splice (now (table .entry)) 0 (replicate cells unused) ⌝ }
+    ensures { λ _. ⌜ now (table .exit) ≡ splice (now (table .entry)) 0 (replicate cells (pos 0)) ⌝ }
 {
     let mut j = 0;
     while j < cells {
-        table[j] = -1;
+        table[j] = 0;
         j += 1;
     }
 }
 
-// Opens a session of as many tasks as there are ranks: META1 and zeros up to D into the image, -1 into the first cells. Tests 2, 5, 6, 21, 8,
-// 9, 20 and 18, in this order.
+// -1 into so many cells, from `at` on.
+fn mark_unused(table: &mut [i64], at: usize, cells: usize)
+    requires { ⌜ at + cells ≤ length (now table) ⌝ }
+    ensures { λ _. ⌜ now (table .exit) ≡ splice (now (table .entry)) at (replicate cells unused) ⌝ }
+{
+    let mut j = 0;
+    while j < cells {
+        table[at + j] = -1;
+        j += 1;
+    }
+}
+
+// The cells of a session whose n tasks have each begun so many chunks and written nothing: 0 for these chunks, -1 for the others.
+fn blank(table: &mut [i64], n: usize, begun: usize, planned: usize)
+    requires { ⌜ (n ≤ maxTasks) × (begun ≤ planned) × (planned ≤ maxBlocks) × (n * planned ≤ length (now table)) ⌝ }
+    ensures { λ _. ⌜ now (table .exit) ≡ splice (now (table .entry)) 0 (blankCells begun n planned) ⌝ }
+{
+    mark_begun(table, n * begun);
+    mark_unused(table, n * begun, n * (planned - begun));
+}
+
+// Opens a session of as many tasks as there are ranks: META1 and zeros up to D into the image; -1 into the first cells, and in version 4 a 0 for
+// the first chunk of each task. Tests 2, 4, 5, 6, 21, 8, 9, 20 and 18, in this order.
 pub fn open(
     plan: Plan,
     ranks: &[u64],
@@ -211,12 +257,14 @@ pub fn open(
         order: plan.order,
         version: plan.version,
         patch: plan.patch,
+        format: plan.format,
         blocksize: plan.blocksize,
         n: ranks.len() as u32,
     };
-    let lists = lists_of(ranks, sizes);
+    let begun = limits::least_count(plan.format);
+    let lists = lists_of(ranks, sizes, begun);
     emit::meta1(image, head, &lists, prefix);
-    mark_unused(table, ranks.len() * plan.planned as usize);
+    blank(table, ranks.len(), begun as usize, plan.planned as usize);
     Opened {
         session: Session {
             head,

@@ -65,7 +65,8 @@ fn session_ok(s: Session, lists: &[u64]) -> bool
         return false;
     }
     let counts = &lists[head::COUNTS..head::LISTS];
-    limits::all_within(counts, s.head.n as usize, 0, s.planned as u64)
+    let least = limits::least_count(s.head.format);
+    limits::all_within(counts, s.head.n as usize, least, s.planned as u64)
 }
 
 pub fn session_refusal(s: Session, lists: &[u64], image: &[u8], table: &[i64]) -> u32
@@ -87,7 +88,7 @@ fn loaded_ok(l: Loaded, lists: &[u64]) -> bool
         return false;
     }
     let counts = &lists[head::COUNTS..head::LISTS];
-    heads::counts_ok(counts, l.head.n as usize, l.maxchunks)
+    tables::counts_ok(counts, l.head.n as usize, l.head.format, l.maxchunks)
 }
 
 pub fn loaded_refusal(l: Loaded, lists: &[u64], image: &[u8], table: &[i64]) -> u32

@@ -1,4 +1,4 @@
-// The rule for each number of document 01, "Numbers that bound the work"; a list is judged over its first n entries.
+// The rule for each number of document 01, "Numbers that bound the work", and for fileformat_version; a list is judged over its first n entries.
 ghost use mathlib.Core.Path.{_≡_};
 ghost use mathlib.Core.Bool.{not, _&&_};
 ghost use Prim.Native.Nat.{_<_, _≤_};
@@ -7,8 +7,25 @@ ghost use lib.IntN.{pos};
 ghost use lib.ListN.{length, getD};
 ghost use Rattle.lists.specs.Below.{allBelow};
 ghost use Rattle.endian.specs.Signed.{within, sameZ};
-ghost use Rattle.format.specs.Limits.{tasksRule, blocksizeRule, plannedRule, maxchunksRule, allDifferent, ranksRule, sizesRule};
+ghost use Rattle.format.specs.Limits.{formatRule, tasksRule, blocksizeRule, plannedRule, maxchunksRule, allDifferent, ranksRule, sizesRule};
+ghost use Rattle.format.specs.Meta2.{leastCount};
 use format::limit;
+
+pub fn format_ok(format: u32) -> bool
+    ensures { λ r. ⌜ r ≡ formatRule (pos format) ⌝ }
+{
+    limit::PLAIN_FORMAT <= format && format <= limit::IDLE_FORMAT
+}
+
+// The least count of a task in this format: in 4 a task that wrote nothing has a chunk in use.
+pub fn least_count(format: u32) -> u64
+    ensures { λ r. ⌜ r ≡ leastCount format ⌝ }
+{
+    if format == limit::IDLE_FORMAT {
+        return 1;
+    }
+    0
+}
 
 pub fn blocksize_ok(blocksize: u32) -> bool
     ensures { λ r. ⌜ r ≡ blocksizeRule (pos blocksize) ⌝ }

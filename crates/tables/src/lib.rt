@@ -1,19 +1,20 @@
-// The cells of a table judged by META2's rule, many at a time and without a branch; the bytes that a cell says were written, and back.
+// META2's rule: counts judged by it, and the cells of a table, many at a time and without a branch; the bytes that a cell says were written, and back.
 ghost use mathlib.Core.Path.{_≡_};
 ghost use mathlib.Core.Bool.{cond, _&&_};
 ghost use Prim.Native.Nat.{_+_, _*_, _<_, _≤_, _^_, min};
 ghost use lib.Dec.{ltb, leb};
 ghost use lib.IntN.{pos};
 ghost use lib.ListN.{length, getD};
-ghost use Rattle.lists.specs.Below.{allBelow};
+ghost use Rattle.lists.specs.Below.{allBelow, greatestBelow};
 ghost use Rattle.endian.specs.Signed.{natural};
 ghost use Rattle.format.specs.Limits.{maxBlocks, maxSize, Sound};
 ghost use Rattle.format.specs.Layout.{capacity};
-ghost use Rattle.format.specs.Meta2.{valueRule, valuesRule};
+ghost use Rattle.format.specs.Meta2.{countsRule, valueRule, valuesRule};
 ghost use Rattle.format.specs.Record.{cell};
 ghost use Rattle.tables.specs.Spans.{ruleAt, HoldsListed};
 use endian::sign;
 use format::limit;
+use rules::limits;
 
 // The top bit alone.
 const TOP: u64 = 0x8000_0000_0000_0000;
@@ -21,6 +22,33 @@ const TOP: u64 = 0x8000_0000_0000_0000;
 // Up to so many tasks a list of this length is enough for what chunks hold. The list is cleared in every call, so a call on few tasks takes the
 // short one.
 pub const FEW: usize = 16;
+
+// The greatest of the first n, 0 where n is 0.
+pub fn greatest(values: &[u64], n: usize) -> u64
+    requires { ⌜ n ≤ length (now values) ⌝ }
+    ensures { λ r. ⌜ r ≡ greatestBelow n (λ i. getD (now (values .entry)) i 0) ⌝ }
+{
+    let mut most = 0;
+    let mut i = 0;
+    while i < n {
+        if most < values[i] {
+            most = values[i];
+        }
+        i += 1;
+    }
+    most
+}
+
+// Whether each count is from the format's least one to maxchunks, and the greatest is maxchunks.
+pub fn counts_ok(counts: &[u64], n: usize, format: u32, maxchunks: u32) -> bool
+    requires { ⌜ n ≤ length (now counts) ⌝ }
+    ensures { λ r. ⌜ r ≡ countsRule format n maxchunks (λ i. pos (getD (now (counts .entry)) i 0)) ⌝ }
+{
+    if !limits::all_within(counts, n, limits::least_count(format), maxchunks as u64) {
+        return false;
+    }
+    greatest(counts, n) == maxchunks as u64
+}
 
 // `bad`, with its top bit set if bits is over holds: bits, or the difference, then has that bit.
 fn over(bad: u64, holds: u64, bits: u64) -> u64

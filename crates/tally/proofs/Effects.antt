@@ -21,8 +21,9 @@ use Rattle.format.proofs.Stripes.{length-counts, ranks-kept, sizes-kept, counts
 use Rattle.format.specs.Session.{State, withCount}
 use Rattle.format.specs.Write.{Request, capacityOf, spot, writeRefusal, stored, afterWrite}
 use Rattle.format.proofs.Outcomes.{accepted-stores}
-use Rattle.format.specs.Tally.{Tally, Tallies, outcomeIn, answerTo, feed, fedOf}
+use Rattle.format.specs.Tally.{Tally, Tallies, countBy, outcomeIn, answerTo, feed, fedOf}
 use Rattle.tally.proofs.Cases.{feed-other}
+use Rattle.tally.proofs.Counts.{count-begun}
 use Rattle.tally.proofs.Places.{reachable-feed, storedIn, length-after}
 use Rattle.tally.specs.Simulates.{CellIs, Simulates, termsAt, Own}
 use Rattle.tally.proofs.Simulating.{layout-of, StepSimulates, CellsKept}
@@ -59,7 +60,13 @@ module _ {b : Tallies} {st : State} (f : Own b st) (q : Request) where
   module _ (x : Tally) (low : 1 ≤ q .task) (top : q .task ≤ st .session .head .n) (now : feed (termsAt st) b (fedOf q) (q .task) ≡ x)
       (some : 0 < x .u) (most : x .u ≤ st .session .planned) (chunk-is : spot st q .chunk ≡ x .u)
       (sum-is : spot st q .from + length (q .bytes) ≡ x .w)
-      (grow : (k : ℕ) (z : ℤ) → (k + 1 ≡ x .u → ⊥) → CellIs (capacityOf st q) (b (q .task)) k z → CellIs (capacityOf st q) x k z) where
+      (grow : (k : ℕ) (z : ℤ) → (k + 1 ≡ x .u → ⊥)
+      → CellIs (capacityOf st q) (countBy (st .session .head .format) (b (q .task))) (b (q .task) .w) k z
+      → CellIs (capacityOf st q) (x .u) (x .w) k z) where
+    -- its count is then u
+    count-is : countBy (st .session .head .format) x ≡ x .u
+    count-is = count-begun (st .session .head .format) x some
+
     -- the cell that is stored
     cellAt : ℕ
     cellAt = valueIndex (st .session .head .n) (x .u - 1) (q .task - 1)
@@ -117,20 +124,20 @@ module _ {b : Tallies} {st : State} (f : Own b st) (q : Request) where
     other-tally i d = feed-other (termsAt st) b (fedOf q) (i + 1) (λ e. d (omega arith))
 
     new-cells : (i k : ℕ) → i < st .session .head .n → k < st .session .planned
-        → CellIs (holds (st .session .head) (sizeOf (st .lists)) i) (feed (termsAt st) b (fedOf q) (i + 1)) k
-        (cell (stored st q .table) (valueIndex (st .session .head .n) k i))
+        → CellIs (holds (st .session .head) (sizeOf (st .lists)) i) (countBy (st .session .head .format) (feed (termsAt st) b (fedOf q) (i + 1)))
+        (feed (termsAt st) b (fedOf q) (i + 1) .w) k (cell (stored st q .table) (valueIndex (st .session .head .n) k i))
     unfolding capacityOf
     new-cells i k h l = go (eqb i (q .task - 1)) refl (eqb (k + 1) (x .u)) refl
       where
         go : (v : Bool) → eqb i (q .task - 1) ≡ v → (w : Bool) → eqb (k + 1) (x .u) ≡ w
-            → CellIs (holds (st .session .head) (sizeOf (st .lists)) i) (feed (termsAt st) b (fedOf q) (i + 1)) k
-            (cell (stored st q .table) (valueIndex (st .session .head .n) k i))
+            → CellIs (holds (st .session .head) (sizeOf (st .lists)) i) (countBy (st .session .head .format) (feed (termsAt st) b (fedOf q) (i + 1)))
+            (feed (termsAt st) b (fedOf q) (i + 1) .w) k (cell (stored st q .table) (valueIndex (st .session .head .n) k i))
         go false e w d = rw (other-tally i (eqb-false _ _ e), other-cell i k h (λ y. eqb-false _ _ e (y .1))) (f .cells-are i k h l)
         go true e false d =
             let at : i ≡ q .task - 1 = eqb-true _ _ e in
             let task : q .task - 1 + 1 ≡ q .task = omega arith in
             let past : k + 1 ≡ x .u → ⊥ = eqb-false _ _ d in
-            rw (other-cell i k h (λ y. past (omega (arith, y .0))), at, task, now)
+            rw (other-cell i k h (λ y. past (omega (arith, y .0))), at, task, now, count-is)
             (grow k _ past (rw (at, task) at (f .cells-are i k h l)))
         go true e true d =
             let at : i ≡ q .task - 1 = eqb-true _ _ e in
@@ -138,17 +145,19 @@ module _ {b : Tallies} {st : State} (f : Own b st) (q : Request) where
             let last : k + 1 ≡ x .u = eqb-true _ _ d in
             let here : valueIndex (st .session .head .n) k i ≡ cellAt = same-index i k at (omega arith) in
             let there : cellAt < length (st .table) = omega (arith, cellAt-lt, f .table-long) in
-            rw (here, table-is, getD-set-same (st .table) cellAt (pos (x .w)) (pos 0) there, at, task, now)
+            rw (here, table-is, getD-set-same (st .table) cellAt (pos (x .w)) (pos 0) there, at, task, now, count-is)
             (record { used = λ y. absurd (omega arith); last = λ _. refl; none = λ y. absurd (omega arith) })
 
-    new-counts : (i : ℕ) → i < st .session .head .n → countOf (stored st q .lists) i ≡ feed (termsAt st) b (fedOf q) (i + 1) .u
+    new-counts : (i : ℕ) → i < st .session .head .n
+        → countOf (stored st q .lists) i ≡ countBy (st .session .head .format) (feed (termsAt st) b (fedOf q) (i + 1))
     new-counts i h = go (eqb i (q .task - 1)) refl
       where
-        go : (v : Bool) → eqb i (q .task - 1) ≡ v → countOf (stored st q .lists) i ≡ feed (termsAt st) b (fedOf q) (i + 1) .u
+        go : (v : Bool) → eqb i (q .task - 1) ≡ v
+            → countOf (stored st q .lists) i ≡ countBy (st .session .head .format) (feed (termsAt st) b (fedOf q) (i + 1))
         go true e =
             let at : i ≡ q .task - 1 = eqb-true _ _ e in
             let task : q .task - 1 + 1 ≡ q .task = omega arith in
-            rw (counts-is, at, task, now)
+            rw (counts-is, at, task, now, count-is)
             (getD-set-same (countsOf (st .lists)) (q .task - 1) (x .u) 0 (omega (arith, task-few, length-counts (st .lists) (f .as-many))))
         go false e =
             rw (counts-is, other-tally i (eqb-false _ _ e))

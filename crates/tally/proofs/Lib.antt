@@ -1,5 +1,6 @@
 pub mod Share
 pub mod Cases
+pub mod Counts
 pub mod Simulating
 pub mod Effects
 pub mod Steps

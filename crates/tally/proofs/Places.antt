@@ -9,7 +9,7 @@ use lib.Dec.{eqb}
 use lib.ListN.{length, getD}
 use borrow.Author.Tests.{eqb-true, eqb-false}
 use Rattle.lists.specs.Splice.{splice}
-use Rattle.lists.proofs.Splice.{length-splice, getD-splice-in, splice-other}
+use Rattle.lists.proofs.Splice.{length-splice, getD-splice-in, splice-other, splice-agree}
 use Rattle.format.specs.Write.{Request}
 use Rattle.format.specs.Tally.{Terms, Fed, Tally, Tallies, initial, outcome, outcomeIn, answerTo, afterwards, feed, feedAll, fedOf, fed, offsetIn, Outcome, refused, empty, stays, moves, PlacedAt, here, later}
 use Rattle.tally.specs.Simulates.{Reachable, AllReachable}
@@ -256,6 +256,31 @@ module _ (B M : ℕ) (p : Terms) (lo : Layout B M p) where
       others qs (feed p b (fedOf q)) (storedIn p b m q) x (long-stored b q m long s) (reachable-feed p b (fedOf q) s)
       (λ t v l. none t v (later l))
       ∙ other b q m long s x (λ r j l e. none (q .task) (getD (q .bytes) j 0) (here refl r j l e refl))
+
+  -- two images that have the same byte at a place have the same there afterwards
+  same-stored : (q : Request) (b : Tallies) (m m′ : List ℕ) (x : ℕ) → M ≤ length m → M ≤ length m′ → AllReachable p b → getD m x 0 ≡ getD m′ x 0
+      → getD (storedIn p b m q) x 0 ≡ getD (storedIn p b m′ q) x 0
+  same-stored q b m m′ x long long′ s same = go refl (view p (fedOf q) (b (q .task)))
+    where
+      put : answerTo (outcomeIn p b (fedOf q)) ≡ 0 → 0 < length (q .bytes) → getD (storedIn p b m q) x 0 ≡ getD (storedIn p b m′ q) x 0
+      put r some =
+          let z = spot-of p b q s r some in
+          rw (z .lays m, z .lays m′)
+          (splice-agree m m′ (offsetIn p b q) (q .bytes) x 0 (fits-of m long z) (fits-of m′ long′ z) same)
+
+      go : {f : Outcome} → outcomeIn p b (fedOf q) ≡ f → View p (fedOf q) (b (q .task)) f
+          → getD (storedIn p b m q) x 0 ≡ getD (storedIn p b m′ q) x 0
+      go e (is-refused _) = rw e same
+      go e (is-empty _ _ _) = rw e same
+      go e (is-stays _ _ some _ _) = put (rw e) some
+      go e (is-moves _ _ some _ _ _) = put (rw e) some
+
+  pub same-after : (qs : List Request) (b : Tallies) (m m′ : List ℕ) (x : ℕ) → M ≤ length m → M ≤ length m′ → AllReachable p b
+      → getD m x 0 ≡ getD m′ x 0 → getD (imageAfter p b m qs) x 0 ≡ getD (imageAfter p b m′ qs) x 0
+  same-after [] b m m′ x long long′ s same = same
+  same-after (q ∷ qs) b m m′ x long long′ s same =
+      same-after qs (feed p b (fedOf q)) (storedIn p b m q) (storedIn p b m′ q) x (long-stored b q m long s) (long-stored b q m′ long′ s)
+      (reachable-feed p b (fedOf q) s) (same-stored q b m m′ x long long′ s same)
 
   -- ---- no block with bytes of two tasks
 

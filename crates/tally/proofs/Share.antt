@@ -53,9 +53,9 @@ module _ (p : Terms) (task : ℕ) (P : Tally → ℕ → Type 0)
 -- ---- no chunk holds more than c
 
 pub reachable-initial : (K c : ℕ) → Reachable K c (record { u = 0; w = 0 }) 0
-reachable-initial K c = record { high = λ k. absurd (omega arith); fresh = λ e. refl; last = omega arith; most = omega arith }
+reachable-initial K c = record { high = λ k. absurd (omega arith); fresh = λ e. (refl, refl); last = omega arith; most = omega arith }
 
-moves-high : (u w c h l : ℕ) → (0 < u → h + c ≤ u * c + w) → (u ≡ 0 → h ≡ 0) → w ≤ c → h + l + c ≤ (u + 1) * c + l
+moves-high : (u w c h l : ℕ) → (0 < u → h + c ≤ u * c + w) → (u ≡ 0 → (h ≡ 0) × (w ≡ 0)) → w ≤ c → h + l + c ≤ (u + 1) * c + l
 moves-high zero w c h l g f k = omega (arith, f refl)
 moves-high (suc v) w c h l g f k = rw (add-one, suc-mul (suc v) c) (omega (arith, g (omega arith)))
 

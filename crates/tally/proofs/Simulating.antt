@@ -20,8 +20,9 @@ use Rattle.format.specs.Record.{entry, cell, countAt, holds, startOf, endAt}
 use Rattle.format.specs.declared.session.Session.{Session}
 use Rattle.format.specs.Session.{State}
 use Rattle.format.specs.Write.{Request, writeRefusal, afterWrite, writes, refusals}
-use Rattle.format.specs.Tally.{Tally, Tallies, outcomeIn, answerTo, feed, feedAll, answers, fedOf, fed}
+use Rattle.format.specs.Tally.{Tallies, countBy, outcomeIn, answerTo, feed, feedAll, answers, fedOf, fed}
 use Rattle.tally.specs.Simulates.{termsIn, CellIs, Simulates}
+use Rattle.tally.proofs.Counts.{count-most}
 use Rattle.tally.proofs.Places.{Layout, storedIn, imageAfter}
 
 -- the chunks lie apart, and before the end of META2
@@ -67,17 +68,18 @@ CellsKept s size b st q =
     → cell (afterWrite st q .table) (valueIndex (s .head .n) k i) ≡ cell (st .table) (valueIndex (s .head .n) k i)
 
 -- a used chunk's cell passes META2's rule
-cell-used : (c : ℕ) (x : Tally) (k : ℕ) (z : ℤ) → x .w ≤ c → CellIs c x k z → k < x .u → within 0 c z ≡ true
-cell-used c x k z h q l = go (eqb (k + 1) (x .u)) refl
+cell-used : (c count w k : ℕ) (z : ℤ) → w ≤ c → CellIs c count w k z → k < count → within 0 c z ≡ true
+cell-used c count w k z h q l = go (eqb (k + 1) count) refl
   where
-    go : (v : Bool) → eqb (k + 1) (x .u) ≡ v → within 0 c z ≡ true
-    go true e = rw (q .last (eqb-true _ _ e)) (within-holds 0 c (x .w) (omega arith) h)
+    go : (v : Bool) → eqb (k + 1) count ≡ v → within 0 c z ≡ true
+    go true e = rw (q .last (eqb-true _ _ e)) (within-holds 0 c w (omega arith) h)
     go false e =
         let y = q .used (omega (arith, eqb-false)) in
         rw (y .1) (within-holds 0 c (y .0) (omega arith) (y .2))
 
-pub used-fits : {s : Session} {size : ℕ → ℕ} {b : Tallies} {st : State} → Simulates s size b st → (i k : ℕ) → i < s .head .n → k < b (i + 1) .u
-    → within 0 (holds (s .head) size i) (cell (st .table) (valueIndex (s .head .n) k i)) ≡ true
-used-fits {b = b} f i k l u =
+pub used-fits : {s : Session} {size : ℕ → ℕ} {b : Tallies} {st : State} → Simulates s size b st → (i k : ℕ) → i < s .head .n
+    → k < countBy (s .head .format) (b (i + 1)) → within 0 (holds (s .head) size i) (cell (st .table) (valueIndex (s .head .n) k i)) ≡ true
+used-fits {s = s} {b = b} f i k l u =
     let z : i + 1 - 1 ≡ i = omega arith in
-    cell-used _ (b (i + 1)) k _ (rw z at (f .reachable (i + 1) .1 .last)) (f .cells-are i k l (omega (arith, f .reachable (i + 1) .1 .most))) u
+    let most = count-most (s .head .format) (b (i + 1)) (f .some) (f .reachable (i + 1) .1 .most) in
+    cell-used _ _ (b (i + 1) .w) k _ (rw z at (f .reachable (i + 1) .1 .last)) (f .cells-are i k l (omega arith)) u

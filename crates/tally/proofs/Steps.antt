@@ -1,15 +1,15 @@
 -- A session that follows a book of the tally passes its tests, and each write and each list of writes does to it what the tally does, by the
 -- tally's six cases.
 use mathlib.Core.Path.{_≡_, refl, sym, ap, ap₂, _∙_, subst}
-use mathlib.Core.Bool.{Bool, true, false, _&&_}
+use mathlib.Core.Bool.{Bool, true, false}
 use mathlib.Core.List.{List, [], _∷_}
 use Prim.Native.Nat.{ℕ, _+_, _-_, _≤_, _<_}
 use native.Mathlib.Nat.{add-zero}
 use native.Mathlib.Omega.{arith}
-use lib.Dec.{ltb, leb, eqb}
+use lib.Dec.{eqb}
 use lib.IntN.{ℤ, pos}
 use lib.ListN.{length}
-use borrow.Author.Tests.{eqb-true, eqb-false, lt-ltb, le-ltb, le-leb, lt-leb, ltb-true}
+use borrow.Author.Tests.{eqb-true, eqb-false, lt-ltb, le-ltb, le-leb, lt-leb}
 use Rattle.endian.specs.Signed.{natural}
 use Rattle.endian.proofs.Signed.{within-facts, within-holds}
 use Rattle.format.specs.Refusals.{firstFailing}
@@ -21,8 +21,9 @@ use Rattle.format.specs.Write.{Request, Spot, begun, inLast, capacityOf, spot, 
 use Rattle.format.proofs.Sessions.{session-passes}
 use Rattle.format.proofs.Answers.{answer-no-task, answer-empty, answer-long, answer-chunk}
 use Rattle.format.proofs.Outcomes.{refused-keeps, empty-keeps}
-use Rattle.format.specs.Tally.{Tallies, outcomeIn, answerTo, afterwards, feed, fedOf, Outcome, refused, empty, stays, moves}
+use Rattle.format.specs.Tally.{Tallies, countBy, outcomeIn, answerTo, afterwards, feed, fedOf, Outcome, refused, empty, stays, moves}
 use Rattle.tally.proofs.Cases.{View, is-refused, is-empty, is-stays, is-moves, no-task, too-long, no-room, view, feed-same}
+use Rattle.tally.proofs.Counts.{count-begun, count-over, count-least, count-next, count-most}
 use Rattle.tally.proofs.Places.{imageAfter}
 use Rattle.tally.specs.Simulates.{termsIn, CellIs, Simulates, termsAt, Own}
 use Rattle.tally.proofs.Simulating.{used-fits, StepSimulates, RunSimulates, CellsKept}
@@ -35,7 +36,7 @@ module _ {b : Tallies} {st : State} (f : Own b st) where
       session-passes st (f .not-closed) (f .some) (record {
         head = f .sound;
         few = f .few;
-        counts = λ i l. omega (arith, f .counts-are i l, f .reachable (i + 1) .1 .most);
+        counts = λ i l. rw (f .counts-are i l) (count-least _ _, count-most _ _ (f .some) (f .reachable (i + 1) .1 .most));
         image-long = f .image-long;
         table-long = f .table-long;
         agree =
@@ -47,46 +48,77 @@ module _ {b : Tallies} {st : State} (f : Own b st) where
   -- ---- one write
 
   module _ (q : Request) where
+    -- the chunks in use, by the tally
+    abbrev count : ℕ
+    count = countBy (st .session .head .format) (b (q .task))
+
     last-room : b (q .task) .w ≤ capacityOf st q
     unfolding capacityOf
     last-room = f .reachable (q .task) .1 .last
 
-    -- of a task that there is, the count and the last cell are u and w
+    -- of a task that there is, the count and the last cell are the tally's
     module _ (low : 1 ≤ q .task) (top : q .task ≤ st .session .head .n) where
       back : q .task - 1 + 1 ≡ q .task
       back = omega arith
 
-      begun-is : begun st q ≡ b (q .task) .u
+      begun-is : begun st q ≡ count
       unfolding begun
       begun-is = rw back at (f .counts-are (q .task - 1) (omega arith))
 
-      last-is : 0 < b (q .task) .u → inLast st q ≡ b (q .task) .w
+      last-is : 0 < count → inLast st q ≡ b (q .task) .w
       unfolding inLast
       last-is k =
           let e = begun-is in
-          let c = f .cells-are (q .task - 1) (begun st q - 1) (omega arith) (omega (arith, f .reachable (q .task) .1 .most)) in
+          let most = count-most (st .session .head .format) (b (q .task)) (f .some) (f .reachable (q .task) .1 .most) in
+          let c = f .cells-are (q .task - 1) (begun st q - 1) (omega arith) (omega arith) in
           ap natural ((rw back at c) .last (omega arith))
+
+      -- a chunk is in use, and the bytes fit in what is left of it
+      spot-here : 0 < count → b (q .task) .w + length (q .bytes) ≤ capacityOf st q → spot st q ≡ record { chunk = count; from = b (q .task) .w }
+      unfolding spot
+      spot-here k fits =
+          rw (begun-is, last-is k, lt-ltb 0 count k, le-leb (length (q .bytes)) (capacityOf st q - b (q .task) .w) (omega arith))
 
       spot-stays : 0 < b (q .task) .u → b (q .task) .w + length (q .bytes) ≤ capacityOf st q
           → spot st q ≡ record { chunk = b (q .task) .u; from = b (q .task) .w }
-      unfolding spot
       spot-stays k fits =
-          rw (begun-is, last-is k, lt-ltb 0 (b (q .task) .u) k, le-leb (length (q .bytes)) (capacityOf st q - b (q .task) .w) (omega arith))
+          let e = count-begun (st .session .head .format) (b (q .task)) k in
+          spot-here (omega arith) fits ∙ ap (λ (n : ℕ). record { chunk = n; from = b (q .task) .w }) e
 
-      over : (0 < b (q .task) .u → capacityOf st q < b (q .task) .w + length (q .bytes))
-          → (ltb 0 (b (q .task) .u) && leb (length (q .bytes)) (capacityOf st q - inLast st q)) ≡ false
-      over more = go (ltb 0 (b (q .task) .u)) refl
-        where
-          go : (v : Bool) → ltb 0 (b (q .task) .u) ≡ v → (v && leb (length (q .bytes)) (capacityOf st q - inLast st q)) ≡ false
-          go true e =
-              let k = ltb-true 0 (b (q .task) .u) e in
-              lt-leb (length (q .bytes)) (capacityOf st q - inLast st q) (omega (arith, last-is k, more k, last-room))
-          go false e = refl
-
-      spot-moves : (0 < b (q .task) .u → capacityOf st q < b (q .task) .w + length (q .bytes))
-          → spot st q ≡ record { chunk = b (q .task) .u + 1; from = 0 }
+      -- a chunk is in use, and they do not fit; and none is
+      spot-next : 0 < count → capacityOf st q < b (q .task) .w + length (q .bytes) → spot st q ≡ record { chunk = count + 1; from = 0 }
       unfolding spot
-      spot-moves more = rw (begun-is, over more)
+      spot-next k more =
+          rw (begun-is, last-is k, lt-ltb 0 count k, lt-leb (length (q .bytes)) (capacityOf st q - b (q .task) .w) (omega (arith, last-room)))
+
+      spot-first : count ≡ 0 → spot st q ≡ record { chunk = 1; from = 0 }
+      unfolding spot
+      spot-first e = rw (begun-is ∙ e)
+
+      -- where no chunk is begun, the bytes go to the first one, be it in use already or not
+      spot-fresh : b (q .task) .u ≡ 0 → length (q .bytes) ≤ capacityOf st q → spot st q ≡ record { chunk = 1; from = 0 }
+      spot-fresh none fits = go (eqb count 0) refl
+        where
+          go : (v : Bool) → eqb count 0 ≡ v → spot st q ≡ record { chunk = 1; from = 0 }
+          go true e = spot-first (eqb-true _ _ e)
+          go false e =
+              let some : 0 < count = omega (arith, eqb-false) in
+              let one : count ≡ 1 = omega (arith, count-next (st .session .head .format) (b (q .task))) in
+              let empty : b (q .task) .w ≡ 0 = f .reachable (q .task) .1 .fresh none .1 in
+              spot-here some (omega arith) ∙ ap₂ (λ (n w : ℕ). record { chunk = n; from = w }) one empty
+
+      spot-moves : length (q .bytes) ≤ capacityOf st q → (0 < b (q .task) .u → capacityOf st q < b (q .task) .w + length (q .bytes))
+          → spot st q ≡ record { chunk = b (q .task) .u + 1; from = 0 }
+      spot-moves fits more = go (eqb (b (q .task) .u) 0) refl
+        where
+          go : (v : Bool) → eqb (b (q .task) .u) 0 ≡ v → spot st q ≡ record { chunk = b (q .task) .u + 1; from = 0 }
+          go true e =
+              let none : b (q .task) .u ≡ 0 = eqb-true _ _ e in
+              spot-fresh none fits ∙ ap (λ (n : ℕ). record { chunk = n + 1; from = 0 }) (sym none)
+          go false e =
+              let some : 0 < b (q .task) .u = omega (arith, eqb-false) in
+              let same = count-begun (st .session .head .format) (b (q .task)) some in
+              spot-next (omega arith) (more some) ∙ ap (λ (n : ℕ). record { chunk = n + 1; from = 0 }) same
 
       is-task : isTask (st .session .head .n) (q .task) ≡ true
       is-task = within-holds 1 (st .session .head .n) (q .task) low top
@@ -107,10 +139,10 @@ module _ {b : Tallies} {st : State} (f : Own b st) where
         go false e = answer-no-task st q own-passes e
 
     -- what was the last chunk's cell is a used chunk's cell after the next chunk has begun
-    used-before : (k : ℕ) (z : ℤ) → CellIs (capacityOf st q) (b (q .task)) k z
-        → k + 1 < b (q .task) .u + 1 → (v : Bool) → eqb (k + 1) (b (q .task) .u) ≡ v → (v : ℕ) × (z ≡ pos v) × (v ≤ capacityOf st q)
+    used-before : (k : ℕ) (z : ℤ) → CellIs (capacityOf st q) count (b (q .task) .w) k z
+        → k + 1 < b (q .task) .u + 1 → (v : Bool) → eqb (k + 1) count ≡ v → (v : ℕ) × (z ≡ pos v) × (v ≤ capacityOf st q)
     used-before k z c l true e = (b (q .task) .w, c .last (eqb-true _ _ e), last-room)
-    used-before k z c l false e = c .used (omega (arith, eqb-false))
+    used-before k z c l false e = c .used (omega (arith, eqb-false, count-over (st .session .head .format) (b (q .task))))
 
     own-step : StepHolds b st q
     unfolding capacityOf stored target
@@ -130,7 +162,7 @@ module _ {b : Tallies} {st : State} (f : Own b st) where
         go e (is-refused (no-task out)) = stays-so e (omega arith) (task-refused out)
         go e (is-refused (too-long l h some long)) = stays-so e (omega arith) (answer-long st q own-passes (is-task l h) long)
         go e (is-refused (no-room l h some fits k more)) =
-            let c : spot st q .chunk ≡ b (q .task) .u + 1 = ap (λ (x : Spot). x .chunk) (spot-moves l h more) in
+            let c : spot st q .chunk ≡ b (q .task) .u + 1 = ap (λ (x : Spot). x .chunk) (spot-moves l h fits more) in
             stays-so e (omega arith) (no-chunk l h some fits (omega arith))
         go e (is-empty l h none) =
             step-unchanged f q (answer-empty st q own-passes (is-task l h) none ∙ sym (ap answerTo e)) (rw e) (now empty e) (empty-keeps st q none)
@@ -140,18 +172,20 @@ module _ {b : Tallies} {st : State} (f : Own b st) where
             let d : spot st q .from ≡ b (q .task) .w = ap (λ (x : Spot). x .from) at in
             let most : b (q .task) .u ≤ st .session .planned = f .reachable (q .task) .1 .most in
             store f q (record { u = b (q .task) .u; w = b (q .task) .w + length (q .bytes) }) l h (now stays e) k most c (omega arith)
-            (λ j z n x. record { used = x .used; last = λ y. absurd (n y); none = x .none })
+            (λ j z n x.
+            let same = count-begun (st .session .head .format) (b (q .task)) k in
+            record { used = λ y. x .used (omega arith); last = λ y. absurd (n y); none = λ y. x .none (omega arith) })
             (chunk-there l h some (omega arith) (omega arith)) (ap answerTo e) some (rw (e, c, d))
         go e (is-moves l h some fits k more) =
-            let at = spot-moves l h more in
+            let at = spot-moves l h fits more in
             let c : spot st q .chunk ≡ b (q .task) .u + 1 = ap (λ (x : Spot). x .chunk) at in
             let d : spot st q .from ≡ 0 = ap (λ (x : Spot). x .from) at in
             store f q (record { u = b (q .task) .u + 1; w = length (q .bytes) }) l h (now moves e) (omega arith) (omega arith) c (omega arith)
             (λ j z n x.
             record {
-              used = λ y. used-before j z x y (eqb (j + 1) (b (q .task) .u)) refl;
+              used = λ y. used-before j z x y (eqb (j + 1) count) refl;
               last = λ y. absurd (n y);
-              none = λ y. x .none (omega arith);
+              none = λ y. x .none (omega (arith, count-next (st .session .head .format) (b (q .task))));
             })
             (chunk-there l h some fits (omega arith)) (ap answerTo e) some (rw (e, c, d, add-zero))
 

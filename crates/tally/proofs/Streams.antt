@@ -26,8 +26,9 @@ use Rattle.format.specs.declared.session.Session.{Session}
 use Rattle.format.specs.Session.{State}
 use Rattle.format.specs.Write.{Request, writeRefusal, afterWrite, writes, refusals, accepted}
 use Rattle.format.proofs.Outcomes.{refused-keeps, empty-keeps}
-use Rattle.format.specs.Tally.{Terms, Tally, Tallies, outcome, outcomeIn, answerTo, afterwards, feed, fedOf, offsetIn, Outcome, refused, empty, stays, moves}
+use Rattle.format.specs.Tally.{Terms, Tally, Tallies, countBy, outcome, outcomeIn, answerTo, afterwards, feed, fedOf, offsetIn, Outcome, empty, stays, moves}
 use Rattle.tally.proofs.Cases.{View, is-refused, is-empty, is-stays, is-moves, refused-some, view, feed-same, feed-other}
+use Rattle.tally.proofs.Counts.{count-begun, count-over, count-next, fresh-apart}
 use Rattle.tally.proofs.Places.{Layout, InChunk, Taken, stored-ways, storedIn, fits-of, kept, length-after}
 use Rattle.tally.specs.Simulates.{termsIn, Simulates, bytesIn, streamIn}
 use Rattle.tally.proofs.Simulating.{layout-of, used-fits}
@@ -37,6 +38,11 @@ use Rattle.tally.proofs.Steps.{step-simulates, cells-kept}
 abbrev bytesFor : ℕ → List ℤ → ℕ → ℕ → ℕ
 bytesFor n table i k = natural (cell table (valueIndex n k i))
 
+-- one empty list is none
+join-one : (f : ℕ → List ℕ) → f 0 ≡ [] → joinBelow 1 f ≡ joinBelow 0 f
+unfolding joinBelow
+join-one f e = e
+
 module _ {s : Session} {size : ℕ → ℕ} {b : Tallies} {st : State} (f : Simulates s size b st) where
   bytes-are : (i k : ℕ) → bytesIn st i k ≡ take (bytesFor (s .head .n) (st .table) i k) (drop (startOf (s .head) size (i + 1) (k + 1)) (st .image))
   unfolding bytesIn
@@ -44,9 +50,30 @@ module _ {s : Session} {size : ℕ → ℕ} {b : Tallies} {st : State} (f : Simu
       ap₂ (λ (x : Session) (size : ℕ → ℕ). take (bytesFor (x .head .n) (st .table) i k) (drop (startOf (x .head) size (i + 1) (k + 1)) (st .image)))
       (f .session-is) (f .sizes-are)
 
-  stream-is : (i : ℕ) → i < s .head .n → streamIn st i ≡ joinBelow (b (i + 1) .u) (bytesIn st i)
+  counted : (i : ℕ) → i < s .head .n → streamIn st i ≡ joinBelow (countBy (s .head .format) (b (i + 1))) (bytesIn st i)
   unfolding streamIn
-  stream-is i l = ap (λ (n : ℕ). joinBelow n (bytesIn st i)) (f .counts-are i l)
+  counted i l = ap (λ (n : ℕ). joinBelow n (bytesIn st i)) (f .counts-are i l)
+
+  -- a first chunk that is in use and not begun has no bytes
+  idle-empty : (i : ℕ) → i < s .head .n → b (i + 1) .u ≡ 0 → countBy (s .head .format) (b (i + 1)) ≡ 1 → bytesIn st i 0 ≡ []
+  idle-empty i l none one =
+      let empty : bytesFor (s .head .n) (st .table) i 0 ≡ 0 =
+      ap natural (f .cells-are i 0 l (f .some) .last (sym one)) ∙ f .reachable (i + 1) .1 .fresh none .1 in
+      bytes-are i 0 ∙ rw empty
+
+  pub stream-is : (i : ℕ) → i < s .head .n → streamIn st i ≡ joinBelow (b (i + 1) .u) (bytesIn st i)
+  stream-is i l = counted i l ∙ go (eqb (b (i + 1) .u) (countBy (s .head .format) (b (i + 1)))) refl
+    where
+      go : (v : Bool) → eqb (b (i + 1) .u) (countBy (s .head .format) (b (i + 1))) ≡ v
+          → joinBelow (countBy (s .head .format) (b (i + 1))) (bytesIn st i) ≡ joinBelow (b (i + 1) .u) (bytesIn st i)
+      go true e = ap (λ (n : ℕ). joinBelow n (bytesIn st i)) (sym (eqb-true _ _ e))
+      go false e =
+          let over = count-over (s .head .format) (b (i + 1)) in
+          let next = count-next (s .head .format) (b (i + 1)) in
+          let apart = eqb-false _ _ e in
+          let none : b (i + 1) .u ≡ 0 = fresh-apart (s .head .format) (b (i + 1)) apart in
+          let one : countBy (s .head .format) (b (i + 1)) ≡ 1 = omega arith in
+          rw (one, none) (join-one (bytesIn st i) (idle-empty i l none one))
 
   -- a chunk that has been begun
   module _ (i k : ℕ) (task : i < s .head .n) (begun : k < b (i + 1) .u) where
@@ -54,10 +81,10 @@ module _ {s : Session} {size : ℕ → ℕ} {b : Tallies} {st : State} (f : Simu
     there = omega (arith, f .reachable (i + 1) .1 .most)
 
     size-last : k + 1 ≡ b (i + 1) .u → bytesFor (s .head .n) (st .table) i k ≡ b (i + 1) .w
-    size-last e = ap natural (f .cells-are i k task there .last e)
+    size-last e = ap natural (f .cells-are i k task there .last (e ∙ sym (count-begun (s .head .format) (b (i + 1)) (omega arith))))
 
     size-fits : bytesFor (s .head .n) (st .table) i k ≤ holds (s .head) size i
-    size-fits = within-natural 0 (holds (s .head) size i) (cell (st .table) (valueIndex (s .head .n) k i)) (used-fits f i k task begun) .2
+    size-fits = within-natural 0 (holds (s .head) size i) (cell (st .table) (valueIndex (s .head .n) k i)) (used-fits f i k task (omega (arith, count-over (s .head .format) (b (i + 1))))) .2
 
     -- each of its bytes is one that the plan has and that has been written
     in-chunk : (j : ℕ) → j < bytesFor (s .head .n) (st .table) i k → InChunk (termsIn s size) (i + 1) (k + 1) j

@@ -13,12 +13,13 @@ use Rattle.format.specs.Meta2.{valueIndex, unused}
 use Rattle.format.specs.Record.{cell, allLists, sizeOf, countOf, holds, startOf, endAt, headSound}
 use Rattle.format.specs.declared.session.Session.{Session}
 use Rattle.format.specs.Session.{State}
-use Rattle.format.specs.Tally.{Terms, Tally, Tallies}
+use Rattle.format.specs.Tally.{Terms, Tally, Tallies, countBy}
 
--- a task whose tally is x can hold h bytes: no chunk that it has begun holds more than c, and it has begun no more than K
+-- a task whose tally is x can hold h bytes: no chunk that it has begun holds more than c, it has begun no more than K, and where it has begun none
+-- it holds nothing and w is 0
 pub record Reachable (K c : ℕ) (x : Tally) (h : ℕ) : Type 0 where
   pub high : 0 < x .u → h + c ≤ x .u * c + x .w
-  pub fresh : x .u ≡ 0 → h ≡ 0
+  pub fresh : x .u ≡ 0 → (h ≡ 0) × (x .w ≡ 0)
   pub last : x .w ≤ c
   pub most : x .u ≤ K
 
@@ -29,11 +30,11 @@ AllReachable p b = (task : ℕ) → (h : ℕ) × Reachable (p .K) (p .c task) (b
 abbrev pub termsIn : Session → (ℕ → ℕ) → Terms
 termsIn s size = record { n = s .head .n; K = s .planned; c = λ task. holds (s .head) size (task - 1); start = startOf (s .head) size }
 
--- what the cell of chunk k + 1 of a task holds, where the task's tally is x
-pub record CellIs (c : ℕ) (x : Tally) (k : ℕ) (z : ℤ) : Type 0 where
-  pub used : k + 1 < x .u → (v : ℕ) × (z ≡ pos v) × (v ≤ c)
-  pub last : k + 1 ≡ x .u → z ≡ pos (x .w)
-  pub none : x .u ≤ k → z ≡ unused
+-- what the cell of chunk k + 1 of a task holds, where the task has so many chunks in use, the last of them with w bytes
+pub record CellIs (c count w k : ℕ) (z : ℤ) : Type 0 where
+  pub used : k + 1 < count → (v : ℕ) × (z ≡ pos v) × (v ≤ c)
+  pub last : k + 1 ≡ count → z ≡ pos w
+  pub none : count ≤ k → z ≡ unused
 
 -- a session with these numbers and sizes is as it is after writes of which the tally says b
 pub record Simulates (s : Session) (size : ℕ → ℕ) (b : Tallies) (st : State) : Type 0 where
@@ -46,9 +47,9 @@ pub record Simulates (s : Session) (size : ℕ → ℕ) (b : Tallies) (st : Stat
   pub as-many : length (st .lists) ≡ allLists
   pub image-long : endAt (s .head) size (s .planned) ≤ length (st .image)
   pub table-long : s .head .n * s .planned ≤ length (st .table)
-  pub counts-are : (i : ℕ) → i < s .head .n → countOf (st .lists) i ≡ b (i + 1) .u
+  pub counts-are : (i : ℕ) → i < s .head .n → countOf (st .lists) i ≡ countBy (s .head .format) (b (i + 1))
   pub cells-are : (i k : ℕ) → i < s .head .n → k < s .planned
-      → CellIs (holds (s .head) size i) (b (i + 1)) k (cell (st .table) (valueIndex (s .head .n) k i))
+      → CellIs (holds (s .head) size i) (countBy (s .head .format) (b (i + 1))) (b (i + 1) .w) k (cell (st .table) (valueIndex (s .head .n) k i))
   pub reachable : AllReachable (termsIn s size) b
 
 -- the same by the session's own numbers and sizes, and what the tally is fed of these

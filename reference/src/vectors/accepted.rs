@@ -61,6 +61,20 @@ pub fn chunks(list: &mut List, order: Order) {
     list.add("ok-base-uneven", &Plan::new(order, &[9, 6, 4]).of_chunks(&base_uneven));
 }
 
+/// Version 4, in which every task has a chunk in use, and the same bytes as a container of version 3.
+pub fn idle(list: &mut List, order: Order) {
+    let plan = |sizes: &[u64]| Plan { format: 4, ..Plan::new(order, sizes) };
+    let p12 = plan(&[500, 600]).build(&visible(&[(1, 300), (1, 200), (1, 1)]));
+    list.add("ok-idle-p12", &p12);
+    list.add("ok-idle-as-3", &p12.with(Field::Format, 3));
+    for n in [1, 2, 28, 29, 64] {
+        list.add(&format!("ok-idle-tasks-{n}"), &plan(&vec![1; n]).build(&[]));
+    }
+    let uneven = visible(&[(2, 512), (1, 2), (2, 511)]);
+    list.add("ok-idle-uneven", &plan(&[9, 6, 4]).build(&uneven));
+    list.fields("ok-idle-value", &p12, Field::Cell(0, 1), &[1, 600, 1024]);
+}
+
 /// Values of META2 up to what the chunks hold, whatever the requested size.
 pub fn values(list: &mut List, Bases { two, lone, full, .. }: &Bases) {
     list.add("ok-full-two", full);

@@ -12,6 +12,7 @@ pub fn all(list: &mut List, bases: &Bases) {
     starts(list, bases);
     counts(list, bases);
     values(list, bases);
+    idle(list, bases);
     over(list, bases.one.order);
     swapped(list, bases);
     pairs(list, bases);
@@ -47,7 +48,7 @@ fn scalars(list: &mut List, Bases { one, .. }: &Bases) {
     list.add("r01-mark-upper", &upper);
     list.add("r01-mark-reversed", &one.swapped(Field::Mark));
     list.fields("r02-order", one, Field::Order, &[0, 2, -1, 256, 16_777_217]);
-    list.fields("r04-format", one, Field::Format, &[0, 2, 4, -3, I32[0], I32[1]]);
+    list.fields("r04-format", one, Field::Format, &[0, 2, 5, 259, -3, I32[0], I32[1]]);
     let wrong = [0, 1, 256, 511, 513, 768, 4_194_305, 6_291_456, 8_388_608, -1, -512, I32[0]];
     list.fields("r05-blocksize", one, Field::Blocksize, &wrong);
     list.fields("r06-ntasks", one, Field::Ntasks, &[0, 65, -1, 257, I32[0], I32[1]]);
@@ -128,6 +129,16 @@ fn values(list: &mut List, Bases { two, lone, full, .. }: &Bases) {
     list.add("r13-second-chunk-without-first", &late);
 }
 
+/// Version 4 with a count of 0, with maxchunks 0, and with the values of version 3.
+fn idle(list: &mut List, Bases { one, many, two, lone, .. }: &Bases) {
+    let idle = |base: &Container| base.with(Field::Format, 4);
+    list.add("r13-idle-count-0", &idle(lone));
+    list.add("r13-idle-maxchunks-0", &idle(one));
+    list.add("r13-idle-maxchunks-0-many", &idle(many));
+    list.fields("r13-idle-count-second", &idle(two), Field::Count(1), &[0, -1, 2, 3]);
+    list.fields("r13-idle-value-second", &idle(two), Field::Cell(0, 1), &[-1, 513]);
+}
+
 /// A value one over what the chunk holds, for a size beside a multiple of the blocksize or on it.
 fn over(list: &mut List, order: Order) {
     let sizes = [(512, 1), (512, 511), (512, 512), (512, 513), (1024, 700), (4096, 700)];
@@ -163,10 +174,10 @@ fn pairs(list: &mut List, Bases { one, many, two, .. }: &Bases) {
     let cases: &[Case] = &[
         ("r01-and-02", one, &[(Mark, 0), (Order, 0)], 1544),
         ("r01-and-02-short", one, &[(Mark, 0)], 7),
-        ("r01-and-04", one, &[(Mark, -1), (Format, 4)], 1544),
+        ("r01-and-04", one, &[(Mark, -1), (Format, 5)], 1544),
         ("r02-and-03", one, &[(Order, 2)], 1075),
         ("r02-and-04", one, &[(Order, 0), (Format, 0)], 1544),
-        ("r03-and-04", one, &[(Format, 4)], 1075),
+        ("r03-and-04", one, &[(Format, 5)], 1075),
         ("r03-and-06", one, &[(Ntasks, 0)], 1075),
         ("r04-and-05", one, &[(Format, 2), (Blocksize, 0)], 1544),
         ("r04-and-06", one, &[(Format, 2), (Ntasks, 65)], 1544),

@@ -39,12 +39,12 @@ impl Night {
     fn new(tasks: usize, chunks: usize) -> Night {
         let (ranks, sizes): (Vec<u64>, _) = ((0..tasks as u64).collect(), vec![SIZE as u64; tasks]);
         let k = chunks as u32;
-        let plan = Plan { order: 0, version: 1, patch: 7, blocksize: 4_096, planned: k };
+        let plan = Plan { order: 0, version: 1, patch: 7, format: 3, blocksize: 4_096, planned: k };
         let needed = raw::needs(plan, &ranks, &sizes, b"");
         let (mut image, mut table) =
             (vec![0; needed.image as usize], vec![0; needed.cells as usize]);
         let opened =
-            reference::open(0, 1, 7, 4_096, &ranks, &sizes, b"", k, &mut image, &mut table);
+            reference::open(0, 1, 7, 3, 4_096, &ranks, &sizes, b"", k, &mut image, &mut table);
         let mut session = opened.expect("the session opens");
         for i in 0..tasks * chunks {
             let bytes: Vec<u8> = (0..SIZE).map(|at| (at * 31 + i) as u8).collect();

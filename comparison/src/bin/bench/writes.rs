@@ -52,7 +52,7 @@ impl Lent {
 
     fn open_theirs(&mut self) -> reference::Session {
         let Lent { k, ranks, sizes, image, table } = self;
-        let opened = reference::open(0, 1, 7, BLOCKSIZE, ranks, sizes, b"", *k, image, table);
+        let opened = reference::open(0, 1, 7, 3, BLOCKSIZE, ranks, sizes, b"", *k, image, table);
         opened.expect("the session opens")
     }
 
@@ -105,7 +105,7 @@ impl Lent {
 
 /// The numbers that every session is opened with.
 fn plan(k: u32) -> Plan {
-    Plan { order: 0, version: 1, patch: 7, blocksize: BLOCKSIZE, planned: k }
+    Plan { order: 0, version: 1, patch: 7, format: 3, blocksize: BLOCKSIZE, planned: k }
 }
 
 /// Both sides once to see that they agree, then the rounds; every turn starts from a session just opened.
@@ -140,7 +140,8 @@ fn open([left, right]: &mut [Lent; 2]) {
     let theirs = || {
         time(OPENINGS, |_| {
             let Lent { k, ranks, sizes, image, table } = black_box(&mut *right);
-            let opened = reference::open(0, 1, 7, BLOCKSIZE, ranks, sizes, b"", *k, image, table);
+            let opened =
+                reference::open(0, 1, 7, 3, BLOCKSIZE, ranks, sizes, b"", *k, image, table);
             let _ = black_box(opened);
         })
     };

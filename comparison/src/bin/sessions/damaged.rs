@@ -5,7 +5,7 @@ use crate::drawn::spoilt_rank;
 use crate::hostile::broken_cell;
 use crate::memory::{Lent, Memory};
 use crate::turns::{Input, Test};
-use reference::{Container, Field, Head, Order, Rng};
+use reference::{Container, Field, Head, Order, Rng, IDLE_FORMAT};
 
 /// What a load tests, in the paper's order. A cut leaves what the next test looks at, so that a length fault and the next fault are both in
 /// the bytes.
@@ -19,7 +19,7 @@ pub const TESTS: [Test<Damaged>; 15] = [
         ("order", 2, |it, _, rng| it.set(Field::Order, &[0, 2, 257, -1], rng)),
     ],
     &[("under 1076 bytes", 3, |it, _, rng| it.cut(20, 1076, rng))],
-    &[("format", 4, |it, _, rng| it.set(Field::Format, &[0, 2, 4, -3], rng))],
+    &[("format", 4, |it, _, rng| it.set(Field::Format, &[0, 2, 5, 259, -3], rng))],
     &[("blocksize", 5, |it, _, rng| {
         it.set(Field::Blocksize, &[0, 256, 768, 8_388_608, -512], rng)
     })],
@@ -58,7 +58,9 @@ pub const PLACE: Test<Damaged> = &[
 /// Test 13; a broken cell is not the last, which a cut may take.
 pub const RULE: Test<Damaged> = &[
     ("count", 13, |it, task, rng| {
-        it.set(Field::Count(task), &[-1, it.container.maxchunks as i64 + 1, i64::MAX], rng);
+        let under = if it.head.format == IDLE_FORMAT { 0 } else { -1 };
+        let over = it.container.maxchunks as i64 + 1;
+        it.set(Field::Count(task), &[under, -1, over, i64::MAX], rng);
     }),
     ("cell", 13, |it, _, rng| {
         let n = it.container.n;

@@ -5,8 +5,9 @@ use crate::turns::{Input, Test};
 use reference::Rng;
 
 /// What an opening tests, in the paper's order.
-pub const TESTS: [Test<Plan>; 8] = [
+pub const TESTS: [Test<Plan>; 9] = [
     &[("order", 2, |plan, _, rng| plan.order = rng.pick(&[2, 3, u32::MAX]))],
+    &[("format", 4, |plan, _, rng| plan.format = rng.pick(&[0, 2, 5, 259, u32::MAX]))],
     &[("blocksize", 5, |plan, _, rng| plan.blocksize = rng.pick(&[0, 256, 768, 8_388_608]))],
     &[("lists", 6, |plan, _, rng| spoil_lists(plan, rng))],
     &[("prefix", 21, |plan, _, rng| plan.prefix = rng.bytes(1025))],
@@ -50,6 +51,7 @@ pub fn sound(rng: &mut Rng) -> Plan {
     let mut plan = Plan::new(rng.below(2) as u32, 512 << shift, &sizes, k as u32);
     plan.version = rng.number() as i32;
     plan.patch = rng.number() as i32;
+    plan.format = rng.pick(&[3, 4]);
     plan.ranks = ranks(rng, n);
     let length = rng.pick(&[0, 20, 1023, 1024]);
     plan.prefix = rng.bytes(length);

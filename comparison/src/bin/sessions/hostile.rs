@@ -4,7 +4,7 @@ use crate::drawn::spoilt_rank;
 use crate::memory::Memory;
 use crate::plan::Plan;
 use lapurmihi::TASKS;
-use reference::{Head, Loaded, Rng, Session};
+use reference::{Head, Loaded, Rng, Session, IDLE_FORMAT};
 
 /// Changes one thing of a session; gives the number that every call must then answer, or none where that depends on more than the change.
 pub fn change_session(memory: &mut Memory, plan: &Plan, rng: &mut Rng) -> Option<u32> {
@@ -43,10 +43,12 @@ fn spoil_record(session: &mut Session, rng: &mut Rng) {
 pub fn spoil_head(head: &mut Head, rng: &mut Rng) {
     let n = head.n as usize;
     let task = rng.below(n);
-    match rng.below(5) {
+    match rng.below(7) {
         0 => head.order = rng.pick(&[2, u32::MAX]),
         1 => head.closed = rng.pick(&[1, 7, u32::MAX]),
         2 => head.counts[task] = rng.pick(&[33, u64::MAX]),
+        3 => head.format = rng.pick(&[0, 2, 5, u32::MAX]),
+        4 if head.format == IDLE_FORMAT => head.counts[task] = 0,
         _ => head.ranks[task] = spoilt_rank(&head.ranks[..n], task, rng),
     }
 }
@@ -82,16 +84,17 @@ fn change_record(session: &mut Session, rng: &mut Rng) {
     let Session { head, k } = session;
     let n = head.n as usize;
     let task = rng.below(n);
-    match rng.below(11) {
+    match rng.below(12) {
         0 => head.version = rng.number() as i32,
         1 => head.patch = rng.number() as i32,
         2 => head.order = 1 - head.order,
-        3 => head.blocksize = rng.pick(&[head.blocksize / 2, 2 * head.blocksize]),
-        4 => head.n = rng.pick(&[head.n - 1, head.n + 1]),
-        5 => *k = rng.pick(&[*k - 1, *k + 1]),
-        6 => head.counts[task] = rng.pick(&[head.counts[task] + 1, u64::from(*k)]),
-        7 => head.sizes[task] = rng.pick(&[1, head.sizes[task] + 1, 1_073_741_824]),
-        8 | 9 if n < TASKS => fill_behind(head, rng),
+        3 => head.format = 7 - head.format,
+        4 => head.blocksize = rng.pick(&[head.blocksize / 2, 2 * head.blocksize]),
+        5 => head.n = rng.pick(&[head.n - 1, head.n + 1]),
+        6 => *k = rng.pick(&[*k - 1, *k + 1]),
+        7 => head.counts[task] = rng.pick(&[head.counts[task] + 1, u64::from(*k)]),
+        8 => head.sizes[task] = rng.pick(&[1, head.sizes[task] + 1, 1_073_741_824]),
+        9 | 10 if n < TASKS => fill_behind(head, rng),
         _ => head.ranks[task] = rng.below(1 << 31) as u64,
     }
 }
@@ -137,7 +140,7 @@ fn any_cell(head: &Head, cells: usize, rng: &mut Rng) -> Cell {
 pub fn change_loaded(memory: &mut Memory, rng: &mut Rng) {
     let Memory { loaded: Loaded { head, maxchunks }, image, table, .. } = memory;
     let task = rng.below(head.n as usize);
-    match rng.below(13) {
+    match rng.below(14) {
         0 => head.closed = rng.pick(&[1, 7, u32::MAX]),
         1 => head.order = rng.pick(&[1 - head.order, 2]),
         2 => head.blocksize = rng.pick(&[768, 2 * head.blocksize]),
@@ -149,7 +152,8 @@ pub fn change_loaded(memory: &mut Memory, rng: &mut Rng) {
         8 => image.length = rng.pick(&[image.length - 60, 1_088]),
         9 => head.version = rng.number() as i32,
         10 => head.patch = rng.number() as i32,
-        11 if (head.n as usize) < TASKS => fill_behind(head, rng),
+        11 => head.format = rng.pick(&[5, 7 - head.format]),
+        12 if (head.n as usize) < TASKS => fill_behind(head, rng),
         _ if table.length == 0 => head.order = u32::MAX,
         _ if rng.one_in(3) => table.length -= 1,
         _ => {

@@ -48,8 +48,8 @@ fn load(loaded: &mut Loaded, image: &[u8], table: &mut [i64]) -> Answer {
 
 /// What of a plan is neither a list nor the prefix.
 fn numbers(plan: &Plan) -> raw::Plan {
-    let Plan { order, version, patch, blocksize, k: planned, .. } = *plan;
-    raw::Plan { order, version, patch, blocksize, planned }
+    let Plan { order, version, patch, format, blocksize, k: planned, .. } = *plan;
+    raw::Plan { order, version, patch, format, blocksize, planned }
 }
 
 fn plain(refusal: u32) -> Answer {

@@ -7,13 +7,16 @@ use crate::plan::Plan;
 use crate::reload::reload;
 use crate::same::{same, same_list};
 use crate::sizes::{self, Asked};
-use reference::{Order, Rng};
+use reference::{Order, Rng, IDLE_FORMAT};
 
 /// Runs them all; the generator gives what stands in images and tables before.
 pub fn check(rng: &mut Rng) -> Result<(), String> {
     for order in [0, 1] {
         p11_p12(order, rng).map_err(|difference| format!("P11 and P12, {difference}"))?;
         already_written(order, rng).map_err(|difference| format!("P12 as before, {difference}"))?;
+        idle_p12(order, rng).map_err(|difference| format!("P12 in version 4, {difference}"))?;
+        idle_nothing(order, rng)
+            .map_err(|difference| format!("the smallest container of version 4, {difference}"))?;
         p13(order, rng).map_err(|difference| format!("P13, {difference}"))?;
         holds(order, rng).map_err(|difference| format!("what a chunk holds, {difference}"))?;
         most_blocks(order, &mut rng.clone())
@@ -51,6 +54,31 @@ fn already_written(order: u32, rng: &mut Rng) -> Result<(), String> {
     memory.session.head.counts[0] = 2;
     close(&mut memory, order, 4656, 4608, &[2, 0, 500, -1, 1, -1])?;
     reload(&memory, 4656, &[stream, vec![]], rng, &mut Counts::default())
+}
+
+/// The session of P12 in version 4: META2 is at 3072 too, and task 2, which wrote nothing, has one chunk of 0 bytes.
+fn idle_p12(order: u32, rng: &mut Rng) -> Result<(), String> {
+    let plan = Plan { format: IDLE_FORMAT, ..Plan::new(order, 512, &[500, 600], 3) };
+    let (answer, mut memory) = plan.open(rng)?;
+    same("opening", answer.refusal, 0)?;
+    same_list("the counts", &memory.session.head.counts[..3], &[1, 1, 0])?;
+    same_list("the cells", &memory.table.values[..6], &[0, 0, -1, -1, -1, -1])?;
+    for length in [300, 200, 1] {
+        same("write", write(&mut memory, length)?, 0)?;
+    }
+    let stream = [[44; 300].as_slice(), &[200; 200], &[1]].concat();
+    close(&mut memory, order, 3104, 3072, &[1, 1, 501, 0])?;
+    reload(&memory, 3104, &[stream, vec![]], rng, &mut Counts::default())
+}
+
+/// One task that wrote nothing: 2,064 bytes, with one chunk of 0 bytes.
+fn idle_nothing(order: u32, rng: &mut Rng) -> Result<(), String> {
+    let plan = Plan { format: IDLE_FORMAT, ..Plan::new(order, 512, &[1], 1) };
+    let (answer, mut memory) = plan.open(rng)?;
+    same("opening", answer.refusal, 0)?;
+    let answer = memory.call(&Call::Close)?;
+    same("close", answer, Answer { refusal: 0, numbers: [2064, 0] })?;
+    reload(&memory, 2064, &[vec![]], rng, &mut Counts::default())
 }
 
 /// Closes the session of two tasks, which leaves so many bytes, META2 where it is said, and in it these numbers; the first is maxchunks too.
@@ -127,11 +155,15 @@ fn write(memory: &mut Memory, length: usize) -> Result<u32, String> {
     Ok(memory.call(&Call::Write { task: 1 })?.refusal)
 }
 
-/// The blocksizes and the numbers of tasks that the paper names.
+/// The blocksizes, the formats and the numbers of tasks that the papers name.
 fn openings(rng: &mut Rng) -> Result<(), String> {
     for (blocksize, wanted) in [(512, 0), (4_194_304, 0), (256, 5), (768, 5), (8_388_608, 5)] {
         let plan = Plan { blocksize, ..Plan::new(0, blocksize.min(4_194_304), &[1], 1) };
         same(&format!("blocksize {blocksize}"), plan.open(rng)?.0.refusal, wanted)?;
+    }
+    for (format, wanted) in [(2, 4), (3, 0), (4, 0), (5, 4)] {
+        let plan = Plan { format, ..Plan::new(0, 512, &[1], 1) };
+        same(&format!("format {format}"), plan.open(rng)?.0.refusal, wanted)?;
     }
     for (n, wanted) in [(64, 0), (0, 6), (65, 6)] {
         let plan = Plan::new(1, 512, &vec![1; n], 1);

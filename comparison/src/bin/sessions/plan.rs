@@ -11,6 +11,7 @@ pub struct Plan {
     pub order: u32,
     pub version: i32,
     pub patch: i32,
+    pub format: u32,
     pub blocksize: u32,
     pub ranks: Vec<u64>,
     pub sizes: Vec<u64>,
@@ -21,13 +22,25 @@ pub struct Plan {
 }
 
 impl Plan {
-    /// A plan with ranks from 0 on that lends just what is needed.
+    /// A plan in version 3 with ranks from 0 on that lends just what is needed.
     pub fn new(order: u32, blocksize: u32, sizes: &[u64], k: u32) -> Plan {
         let ranks = (0..sizes.len() as u64).collect();
         let (sizes, prefix) = (sizes.to_vec(), b"run".to_vec());
-        let (version, patch) = (1, 7);
+        let (version, patch, format) = (1, 7, 3);
         let (bytes, cells) = (0, 0);
-        let plan = Plan { order, version, patch, blocksize, ranks, sizes, prefix, k, bytes, cells };
+        let plan = Plan {
+            order,
+            version,
+            patch,
+            format,
+            blocksize,
+            ranks,
+            sizes,
+            prefix,
+            k,
+            bytes,
+            cells,
+        };
         Plan { bytes: plan.needed_bytes(), cells: plan.needed_cells(), ..plan }
     }
 
@@ -86,11 +99,9 @@ impl Plan {
 /// Names all but the bytes of the prefix, which only count.
 impl Debug for Plan {
     fn fmt(&self, text: &mut Formatter) -> Written {
-        let Plan { order, version, patch, blocksize, ranks, sizes, prefix, k, .. } = self;
-        write!(
-            text,
-            "order {order}, version {version}, patch level {patch}, blocksize {blocksize}, "
-        )?;
-        write!(text, "ranks {ranks:?}, sizes {sizes:?}, prefix of {} bytes, K {k}", prefix.len())
+        let Plan { order, version, patch, format, blocksize, ranks, sizes, prefix, k, .. } = self;
+        write!(text, "order {order}, version {version}, patch level {patch}, format {format}, ")?;
+        write!(text, "blocksize {blocksize}, ranks {ranks:?}, sizes {sizes:?}, ")?;
+        write!(text, "prefix of {} bytes, K {k}", prefix.len())
     }
 }

@@ -53,8 +53,9 @@ fn needs(plan: &Plan) -> Result<[u64; 2], u32> {
 }
 
 fn open(plan: &Plan, image: &mut [u8], table: &mut [i64]) -> Result<Session, u32> {
-    let Plan { order, version, patch, blocksize, ref ranks, ref sizes, ref prefix, k, .. } = *plan;
-    reference::open(order, version, patch, blocksize, ranks, sizes, prefix, k, image, table)
+    let Plan { order, version, patch, format, blocksize, k, .. } = *plan;
+    let Plan { ranks, sizes, prefix, .. } = plan;
+    reference::open(order, version, patch, format, blocksize, ranks, sizes, prefix, k, image, table)
 }
 
 /// Where a part of the image starts in it, and its length.

@@ -1,6 +1,7 @@
 -- Three stores, each where the last ended.
 use mathlib.Core.Path.{ap, ap₂, _∙_}
 use native.Mathlib.Omega.{arith}
+use lib.IntN.{ℤ}
 use mir.Facts.{toZ-ofZ}
 use mir.Syntax.{w32}
 use borrow.Author.Needs.{needs, sfits-of}
@@ -36,8 +37,9 @@ returns c =
     let a = z .args in
     let h = a .h in
     let xs = a .image .now in
-    let bytes = ap₂ (versions (a .big)) (toZ-ofZ {w = w32} {z = h .version} (sfits-of (told .1 .0 .1))) (toZ-ofZ {w = w32} {z = h .patch} (sfits-of (told .1 .1 .0 .1))) in
-    let start = put-first xs 0 _ 20 (length-versions (a .big) (h .version) (h .patch)) (first .put-versions .ensures ∙ ap (splice xs 0) bytes) in
+    let bytes =
+    ap₂ (λ (v p : ℤ). versions (a .big) v p (h .format)) (toZ-ofZ {w = w32} {z = h .version} (sfits-of (told .1 .0 .1))) (toZ-ofZ {w = w32} {z = h .patch} (sfits-of (told .1 .1 .0 .1))) in
+    let start = put-first xs 0 _ 20 (length-versions (a .big) (h .version) (h .patch) (h .format)) (first .put-versions .ensures ∙ ap (splice xs 0) bytes) in
     let fields =
     put-then xs 0 _ _ 32 start (length-shape (a .big) (h .blocksize) (h .n)) (second .put-shape .ensures) (omega (arith, z .pre)) in
     put-then xs 0 _ _ prefixLength fields (length-padded (a .prefix .now) (z .pre .0)) (third .put-prefix .ensures) (omega (arith, z .pre)) .0

@@ -7,7 +7,7 @@ use Rattle.endian.specs.Number.{digits}
 use Rattle.endian.specs.Signed.{signedDigits}
 use Rattle.endian.proofs.Number.{length-digits}
 use Rattle.lists.proofs.Splice.{put-first, put-then}
-use Rattle.format.specs.Meta1.{magic, orderNumber, formatVersion}
+use Rattle.format.specs.Meta1.{magic, orderNumber}
 use Rattle.emit.specs.Parts.{versions}
 use Rattle.emit.proofs.Parts.{store-signed}
 use Rattle.emit.proofs.put_versions.Statement.{statement}
@@ -54,7 +54,7 @@ returns c =
     let patch =
     put-then xs 0 _ (signedDigits (a .big) 4 (a .patch)) 4 version (wide _)
     (fourth .put-i322 .ensures ∙ store-signed _ 12 (a .big) w32 4 (z .fits .patch)) (omega (arith, z .pre)) in
-    put-then xs 0 _ (digits (a .big) 4 formatVersion) 4 patch (wide _) (fifth .put-u322 .ensures) (omega (arith, z .pre)) .0
+    put-then xs 0 _ (digits (a .big) 4 (a .format)) 4 patch (wide _) (fifth .put-u322 .ensures) (omega (arith, z .pre)) .0
 
 pub put-versions-spec : {M : Type 1} → statement M
 put-versions-spec =

@@ -26,13 +26,13 @@ abbrev Left : tie.Start → ℕ → Type 0
 Left s k =
     let a = s .args in
     firstFailing (fieldTests (a .xs .now) (a .len))
-    ≡ firstFailing (drop k (unsignedTests (a .xs .now) (a .len) (a .big) (a .blocksize) (a .n)))
+    ≡ firstFailing (drop k (unsignedTests (a .xs .now) (a .len) (a .big) (a .format) (a .blocksize) (a .n)))
 
 left : (s : tie.Start) → Left s 0
-left s = fields-unsigned _ (s .args .len) _ _ _ (s .pre .order-is) (s .pre .blocksize-is) (s .pre .tasks-are)
+left s = fields-unsigned _ (s .args .len) _ _ _ _ (s .pre .order-is) (s .pre .format-is) (s .pre .blocksize-is) (s .pre .tasks-are)
 
 left-1 : (e : tie.Else1) → Left (start e) 1
-left-1 e = left (start e) ∙ asked-passes _ _ (ap not (sym (e .before .field-is .ensures)) ∙ e .if1 .left)
+left-1 e = left (start e) ∙ asked-passes _ _ (ap not (sym (e .before .format-ok .ensures)) ∙ e .if1 .left)
 
 left-2 : (e : tie.Else2) → Left (start (e .before .before)) 2
 left-2 e = left-1 (e .before .before) ∙ asked-passes _ _ (rw (sym (e .before .blocksize-ok .ensures)) (e .if2 .left))
@@ -45,13 +45,13 @@ left-4 e =
     let d = e .before .before in
     left-3 (d .before .before)
     ∙ asked-passes _ _
-    (rw (test-holds (d .before .field-is2 .ensures) (d .if4 .left), sym (e .before .field-is3 .ensures)) (e .if5 .left))
+    (rw (test-holds (d .before .field-is .ensures) (d .if4 .left), sym (e .before .field-is2 .ensures)) (e .if5 .left))
 
-field-is-requires : tie.Need-field-is-requires
-field-is-requires c κs = (omega (arith, c .before .pre .long), omega arith)
+format-ok-requires : tie.Need-format-ok-requires
+format-ok-requires c κs = search needs
 
 returns : tie.Need-returns
-returns c = sym (left (c .before .before .before) ∙ asked-fails _ _ (ap not (sym (c .before .field-is .ensures)) ∙ c .if1 .taken))
+returns c = sym (left (c .before .before .before) ∙ asked-fails _ _ (ap not (sym (c .before .format-ok .ensures)) ∙ c .if1 .taken))
 
 blocksize-ok-requires : tie.Need-blocksize-ok-requires
 blocksize-ok-requires c κs = search needs
@@ -65,22 +65,22 @@ tasks-ok-requires c κs = search needs
 returns-3 : tie.Need-returns-3
 returns-3 c = sym (left-2 (c .before .before) ∙ asked-fails _ _ (rw (sym (c .before .tasks-ok .ensures)) (c .if3 .taken)))
 
-field-is-requires-2 : tie.Need-field-is-requires-2
-field-is-requires-2 c κs = (omega (arith, from-tasks c .pre .long), omega arith)
+field-is-requires : tie.Need-field-is-requires
+field-is-requires c κs = (omega (arith, from-tasks c .pre .long), omega arith)
 
 returns-4 : tie.Need-returns-4
 returns-4 c =
-    sym (left-3 (c .before .before) ∙ asked-fails _ _ (rw (test-fails (c .before .field-is2 .ensures) (c .if4 .taken))))
+    sym (left-3 (c .before .before) ∙ asked-fails _ _ (rw (test-fails (c .before .field-is .ensures) (c .if4 .taken))))
 
-field-is-requires-3 : tie.Need-field-is-requires-3
-field-is-requires-3 c κs = (omega arith, omega arith)
+field-is-requires-2 : tie.Need-field-is-requires-2
+field-is-requires-2 c κs = (omega arith, omega arith)
 
 returns-5 : tie.Need-returns-5
 returns-5 c =
     let d = c .before .before in
     sym (left-3 (d .before .before)
     ∙ asked-fails _ _
-    (rw (test-holds (d .before .field-is2 .ensures) (d .if4 .left), sym (c .before .field-is3 .ensures)) (c .if5 .taken)))
+    (rw (test-holds (d .before .field-is .ensures) (d .if4 .left), sym (c .before .field-is2 .ensures)) (c .if5 .taken)))
 
 meta1-end-requires : tie.Need-meta1-end-requires
 meta1-end-requires c κs =
@@ -97,15 +97,15 @@ pub field-refusal-spec : {M : Type 1} → statement M
 field-refusal-spec =
     tie.close
     (tie.spec
-    field-is-requires
+    format-ok-requires
     returns
     blocksize-ok-requires
     returns-2
     tasks-ok-requires
     returns-3
-    field-is-requires-2
+    field-is-requires
     returns-4
-    field-is-requires-3
+    field-is-requires-2
     returns-5
     meta1-end-requires
     returns-6

@@ -34,17 +34,19 @@ long e =
     let s = e .before .before .before .before in
     s .pre fixedLength (start-long _ _ (started e)) (omega arith)
 
--- the two numbers that are read
-read : (g : tie.After-get-u322)
-    → let s = g .before .before .before .before in
-    FieldsRead (s .before .before .args .xs .now) (s .judge-start .result .big) (g .before .get-u32 .result) (g .get-u322 .result)
+-- the three numbers that are read
+read : (g : tie.After-get-u323)
+    → let s = g .before .before .before .before .before in
+    FieldsRead (s .before .before .args .xs .now) (s .judge-start .result .big) (g .before .before .get-u32 .result) (g .before .get-u322 .result)
+    (g .get-u323 .result)
 read g =
-    let e = g .before .before in
+    let e = g .before .before .before in
     record {
       order-is = order-given _ _ (e .before .before .judge-start .ensures) (e .if1 .left);
       long = long e;
-      blocksize-is = g .before .get-u32 .ensures;
-      tasks-are = g .get-u322 .ensures;
+      format-is = g .before .before .get-u32 .ensures;
+      blocksize-is = g .before .get-u322 .ensures;
+      tasks-are = g .get-u323 .ensures;
     }
 
 judge-start-requires : tie.Need-judge-start-requires
@@ -62,6 +64,9 @@ get-u32-requires c κs = omega (arith, long c)
 get-u32-requires-2 : tie.Need-get-u32-requires-2
 get-u32-requires-2 c κs = omega (arith, long (c .before))
 
+get-u32-requires-3 : tie.Need-get-u32-requires-3
+get-u32-requires-3 c κs = omega (arith, long (c .before .before))
+
 field-refusal-requires : tie.Need-field-refusal-requires
 field-refusal-requires c κs = read c
 
@@ -71,28 +76,28 @@ no-fixed-requires-2 c κs = search needs
 returns-2 : tie.Need-returns-2
 returns-2 c =
     let f = c .before .before in
-    c .no-fixed2 .ensures ∙ fields-refused _ _ (started (f .before .before .before)) (f .field-refusal .ensures) (c .before .if2 .taken)
+    c .no-fixed2 .ensures ∙ fields-refused _ _ (started (f .before .before .before .before)) (f .field-refusal .ensures) (c .before .if2 .taken)
 
 cast-order : tie.Need-cast-order
 cast-order c = search needs
 
 get-i32-requires : tie.Need-get-i32-requires
-get-i32-requires c κs = omega (arith, long (c .before .before .before .before))
+get-i32-requires c κs = omega (arith, long (c .before .before .before .before .before))
 
 get-i32-requires-2 : tie.Need-get-i32-requires-2
-get-i32-requires-2 c κs = omega (arith, long (c .before .before .before .before .before))
+get-i32-requires-2 c κs = omega (arith, long (c .before .before .before .before .before .before))
 
 returns-3 : tie.Need-returns-3
 returns-3 c =
     let e = c .before .before in
     let f = e .before in
     let g = f .before in
-    let s = g .before .before .before .before in
-    fields-passed _ _ (started (g .before .before)) (f .field-refusal .ensures) (e .if2 .left)
+    let s = g .before .before .before .before .before in
+    fields-passed _ _ (started (g .before .before .before)) (f .field-refusal .ensures) (e .if2 .left)
     ((λ i. headOf (order-number (s .judge-start .result .big) i)
     ((toZ-ofZ {w = w32} (record { sfits = c .before .get-i32 .ok }) ∙ c .before .get-i32 .ensures) i)
     ((toZ-ofZ {w = w32} (record { sfits = c .get-i322 .ok }) ∙ c .get-i322 .ensures) i)
-    (g .before .get-u32 .result) (g .get-u322 .result))
+    (g .before .before .get-u32 .result) (g .before .get-u322 .result) (g .get-u323 .result))
     ∙ fields-read _ _ (read g) (sym (f .field-refusal .ensures) ∙ e .if2 .left))
 
 pub judge-fixed-spec : {M : Type 1} → statement M
@@ -104,6 +109,7 @@ judge-fixed-spec =
     returns
     get-u32-requires
     get-u32-requires-2
+    get-u32-requires-3
     field-refusal-requires
     no-fixed-requires-2
     returns-2

@@ -12,7 +12,7 @@ use Rattle.endian.specs.Signed.{signBit}
 use Rattle.lists.proofs.Below.{test-fails, test-holds, and-left}
 use Rattle.format.specs.declared.head.Head.{Head}
 use Rattle.format.specs.Refusals.{firstFailing}
-use Rattle.format.specs.Meta2.{countField, valueField, countsRule, valuesRule}
+use Rattle.format.specs.Meta2.{countField, valueField, leastCount, countsRule, valuesRule}
 use Rattle.format.specs.Record.{sizeOf, countOf, isBig, holds}
 use Rattle.meta2.specs.Judging.{CountsRead}
 use Rattle.format.specs.Judge.{countIn, meta2Tests}
@@ -24,22 +24,22 @@ use Rattle.meta2.proofs.judge_read.Tie as tie
 
 module _ {part : List ℕ} {h : Head} {maxchunks : ℕ} {lists : List ℕ} (r : CountsRead part h maxchunks lists) where
   -- the rule of the counts says the same of what is read and of the fields
-  counts-judged : countsRule (h .n) maxchunks (countField (isBig h) part) ≡ countsRule (h .n) maxchunks (λ i. pos (countOf lists i))
+  counts-judged : countsRule (h .format) (h .n) maxchunks (countField (isBig h) part) ≡ countsRule (h .format) (h .n) maxchunks (λ i. pos (countOf lists i))
   counts-judged =
       let small = r .there .small in
-      sym (counts-unsigned (signBit 8) (h .n) (λ i. numberAt (isBig h) 8 part (8 * i)) (countOf lists) (r .counts-are) maxchunks (omega arith))
+      sym (counts-unsigned (signBit 8) (h .n) (λ i. numberAt (isBig h) 8 part (8 * i)) (countOf lists) (r .counts-are) (h .format) maxchunks (omega arith))
 
-  bad-counts : countsRule (h .n) maxchunks (λ i. pos (countOf lists i)) ≡ false → 13 ≡ firstFailing (meta2Tests h (sizeOf lists) maxchunks part)
+  bad-counts : countsRule (h .format) (h .n) maxchunks (λ i. pos (countOf lists i)) ≡ false → 13 ≡ firstFailing (meta2Tests h (sizeOf lists) maxchunks part)
   unfolding meta2Tests firstFailing
   bad-counts e = rw (counts-judged ∙ e)
 
   -- counts that keep it are the fields, and the values are judged by them
-  module _ (e : countsRule (h .n) maxchunks (λ i. pos (countOf lists i)) ≡ true) where
+  module _ (e : countsRule (h .format) (h .n) maxchunks (λ i. pos (countOf lists i)) ≡ true) where
     count-kept : (i : ℕ) → i < h .n → countOf lists i ≡ countIn h part i
     unfolding countsRule countIn
     count-kept i l =
         let small = r .there .small in
-        natural-unsigned (signBit 8) (h .n) (λ j. numberAt (isBig h) 8 part (8 * j)) (countOf lists) (r .counts-are) 0 maxchunks (omega arith)
+        natural-unsigned (signBit 8) (h .n) (λ j. numberAt (isBig h) 8 part (8 * j)) (countOf lists) (r .counts-are) (leastCount (h .format)) maxchunks (omega arith)
         (and-left _ _ e) i l
 
     -- v is what the code finds of the values
@@ -57,7 +57,7 @@ start c = c .before .before .before .before .before
 
 kept : (e : tie.Else1)
     → let a = start (e .before .before) .args in
-    countsRule (a .h .n) (a .maxchunks) (λ i. pos (countOf (a .lists .now) i)) ≡ true
+    countsRule (a .h .format) (a .h .n) (a .maxchunks) (λ i. pos (countOf (a .lists .now) i)) ≡ true
 kept e = test-holds (e .before .counts-ok .ensures) (e .if1 .left)
 
 cast-n : tie.Need-cast-n

@@ -1,4 +1,4 @@
--- Ranks, then sizes, put into lists of zeros.
+-- Ranks, then sizes, then counts put into lists of zeros.
 use mathlib.Core.Path.{_≡_, ap, ap₂, _∙_}
 use mathlib.Core.List.{List}
 use Prim.Native.Nat.{ℕ}
@@ -8,8 +8,8 @@ use borrow.Author.Needs.{needs}
 use Rattle.lists.specs.Below.{listBelow}
 use Rattle.lists.specs.Splice.{splice}
 use Rattle.format.specs.Limits.{maxTasks}
-use Rattle.format.specs.Record.{entry, allLists, noLists}
-use Rattle.format.proofs.Stripes.{lists-put, length-ranked}
+use Rattle.format.specs.Record.{entry, allLists, noLists, listsOf, withCounts}
+use Rattle.format.proofs.Stripes.{length-lists, lists-put, length-ranked, counts-put}
 use Rattle.opening.proofs.lists_of.Statement.{statement}
 use Rattle.opening.proofs.lists_of.Tie as tie
 
@@ -41,14 +41,36 @@ put-stripe-requires-2 c κs =
     let r = c .before .before in
     omega (arith, ranked-long r, start (r .before) .pre)
 
-returns : tie.Need-returns
-returns c =
-    let r = c .before .before .before .before in
+slice-aggregate-put-counts : tie.Need-slice-aggregate-put-counts
+slice-aggregate-put-counts c = search needs
+
+-- the lists after the sizes
+sized : (z : tie.After-put-stripe2)
+    → let a = start (z .before .before .before .before) .args in
+    z .put-stripe2 .last .0 ≡ listsOf (length (a .ranks .now)) (entry (a .ranks .now)) (entry (a .sizes .now)) (λ i. 0)
+sized z =
+    let r = z .before .before .before in
     let s = start (r .before) in
     let a = s .args in
-    c .before .put-stripe2 .ensures
+    z .put-stripe2 .ensures
     ∙ ap₂ (λ (lists : List ℕ) (n : ℕ). splice lists maxTasks (listBelow n (entry (a .sizes .now)))) (ranked r) (s .pre .1)
     ∙ lists-put (length (a .ranks .now)) (entry (a .ranks .now)) (entry (a .sizes .now)) (s .pre .0)
+
+put-counts-requires : tie.Need-put-counts-requires
+put-counts-requires c κs =
+    let z = c .before .before in
+    let s = start (z .before .before .before .before) in
+    omega (arith, ap length (sized z) ∙ length-lists _ _ _ _, s .pre .0)
+
+returns : tie.Need-returns
+returns c =
+    let z = c .before .before .before .before in
+    let s = start (z .before .before .before .before) in
+    let a = s .args in
+    let n = length (a .ranks .now) in
+    c .before .put-counts .ensures
+    ∙ ap (λ (lists : List ℕ). withCounts lists n (λ i. a .begun)) (sized z)
+    ∙ counts-put n (entry (a .ranks .now)) (entry (a .sizes .now)) (s .pre .0) (λ i. a .begun)
 
 pub lists-of-spec : {M : Type 1} → statement M
 lists-of-spec =
@@ -58,4 +80,6 @@ lists-of-spec =
     put-stripe-requires
     slice-aggregate-put-stripe-2
     put-stripe-requires-2
+    slice-aggregate-put-counts
+    put-counts-requires
     returns)

@@ -50,7 +50,7 @@ returns c =
 
 number-refusal-requires : tie.Need-number-refusal-requires
 number-refusal-requires c κs =
-    omega (arith, shape-listed _ _ _ _ _ (sym (c .before .shape-refusal .ensures) ∙ c .if1 .left))
+    omega (arith, shape-listed _ _ _ _ _ _ (sym (c .before .shape-refusal .ensures) ∙ c .if1 .left))
 
 no-need-requires-2 : tie.Need-no-need-requires-2
 no-need-requires-2 c κs = search needs

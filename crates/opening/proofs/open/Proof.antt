@@ -1,7 +1,6 @@
 -- Refused, nothing is stored; accepted, what the opening's definitions say.
 use mathlib.Core.Path.{_≡_, sym, ap, ap₂, _∙_}
 use Prim.Native.Nat.{ℕ, _<_}
-use native.Mathlib.Nat.{mul-le-mul}
 use native.Mathlib.Omega.{arith}
 use lib.IntN.{ℤ}
 use lib.ListN.{length}
@@ -11,10 +10,11 @@ use borrow.Author.Needs.{needs, sfits-of}
 use Rattle.lists.specs.Splice.{splice}
 use Rattle.format.specs.declared.head.Head.{Head}
 use Rattle.format.specs.Meta1.{openingBytes}
-use Rattle.format.specs.Record.{allLists, noLists, rankOf, sizeOf, headOf}
+use Rattle.format.specs.Record.{entry, allLists, noLists, listsOf, rankOf, sizeOf, headOf}
 use Rattle.format.proofs.Stripes.{length-lists}
 use Rattle.format.specs.Session.{sessionOf, noSession}
-use Rattle.format.specs.Open.{Opening, openingOf, openRefusal, openHead, openSession, openLists}
+use Rattle.format.proofs.Formats.{least-one}
+use Rattle.format.specs.Open.{Opening, openingOf, blankCells, openRefusal, openHead, openSession, openLists}
 use Rattle.format.proofs.Opening.{OpeningHolds, opening-holds, opening-data, ranks-kept, sizes-kept, opened-answer, opened-image, opened-table, refused-answer, refused-image, refused-table}
 use Rattle.opening.proofs.open.Statement.{statement}
 use Rattle.opening.proofs.open.Tie as tie
@@ -23,7 +23,7 @@ abbrev start : tie.After-open-refusal → tie.Start
 start c = c .before .before .before .before .before
 
 abbrev from-meta1 : tie.After-meta1 → tie.Else1
-from-meta1 c = let l = c .before .before .before in l .before .before
+from-meta1 c = let l = c .before .before .before in l .before .before .before
 
 -- what the opening is given
 abbrev given : tie.Start → Opening
@@ -54,19 +54,25 @@ returns c =
       (sym (refused-image (given s) image table some), sym (refused-table (given s) image table some)),
     )
 
-cast-t15 : tie.Need-cast-t15
-cast-t15 c = omega (arith, known c .plan .few-tasks)
+cast-t16 : tie.Need-cast-t16
+cast-t16 c = omega (arith, known c .plan .few-tasks)
+
+least-count-requires : tie.Need-least-count-requires
+least-count-requires c κs = search needs
 
 lists-of-requires : tie.Need-lists-of-requires
-lists-of-requires c κs = let p = known (c .before) .plan in (p .few-tasks, p .listed)
+lists-of-requires c κs = let p = known (c .before .before) .plan in (p .few-tasks, p .listed)
 
 slice-aggregate-meta1 : tie.Need-slice-aggregate-meta1
 slice-aggregate-meta1 c = search needs
 
 -- the lists that are made
-made : (l : tie.After-lists-of) → l .lists-of .result ≡ openLists (given (start (l .before .before .before)))
+made : (l : tie.After-lists-of) → l .lists-of .result ≡ openLists (given (start (l .before .before .before .before)))
 unfolding openLists
-made l = l .lists-of .ensures
+made l =
+    let a = start (l .before .before .before .before) .args in
+    l .lists-of .ensures
+    ∙ ap (λ (count : ℕ). listsOf (length (a .ranks .now)) (entry (a .ranks .now)) (entry (a .sizes .now)) (λ i. count)) (l .before .least-count .ensures)
 
 made-long : (l : tie.After-lists-of) → length (l .lists-of .result) ≡ allLists
 unfolding openLists
@@ -75,19 +81,19 @@ made-long l = ap length (made l) ∙ length-lists _ _ _ _
 meta1-requires : tie.Need-meta1-requires
 meta1-requires c κs =
     let l = c .before .before in
-    let h = known (l .before .before) in
+    let h = known (l .before .before .before) in
     ((h .plan .block, h .plan .few-tasks, made-long l), (h .plan .prefix-short, opening-data _ h))
 
-cast-mark-unused : tie.Need-cast-mark-unused
-cast-mark-unused c = search needs
+cast-blank : tie.Need-cast-blank
+cast-blank c = search needs
 
-mul-mark-unused : tie.Need-mul-mark-unused
-mul-mark-unused c =
-    let h = known (from-meta1 (c .before .before .before .before)) in
-    omega (arith, mul-le-mul (h .plan .few-tasks) (h .plan .few))
-
-mark-unused-requires : tie.Need-mark-unused-requires
-mark-unused-requires c κs = known (from-meta1 (c .before .before .before .before)) .table-long
+blank-requires : tie.Need-blank-requires
+blank-requires c κs =
+    let m = c .before .before .before .before in
+    let h = known (from-meta1 m) in
+    let o = given (start (from-meta1 m .before)) in
+    let begun = m .before .before .before .before .least-count .ensures in
+    (h .plan .few-tasks, omega (arith, begun, least-one (o .plan .format), h .plan .some), h .plan .few, h .table-long)
 
 same-length : tie.Need-same-length
 same-length c = search needs
@@ -101,17 +107,17 @@ returns-2 c =
     let k = c .before .before in
     let m = k .before .before .before .before in
     let l = m .before .before .before in
-    let e = l .before .before in
+    let e = l .before .before .before in
     let s = start (e .before) in
     let a = s .args in
     let o = given s in
     let image = a .image .now in
     let table = a .table .now in
     let kept = known e .plan in
-    let told = l .before .struct-told .given in
+    let told = l .before .before .struct-told .given in
     let version = toZ-ofZ {w = w32} {z = a .plan .version} (sfits-of (told .1 .0 .1)) in
     let patch = toZ-ofZ {w = w32} {z = a .plan .patch} (sfits-of (told .1 .1 .0 .1)) in
-    let head = ap₂ (λ (v p : ℤ). headOf (a .plan .order) v p (a .plan .blocksize) (length (a .ranks .now))) version patch in
+    let head = ap₂ (λ (v p : ℤ). headOf (a .plan .order) v p (a .plan .format) (a .plan .blocksize) (length (a .ranks .now))) version patch in
     let ranks = ap rankOf (made l) ∙ ranks-kept o kept in
     let sizes = ap sizeOf (made l) ∙ sizes-kept o kept in
     let stored =
@@ -121,7 +127,9 @@ returns-2 c =
           ∙ sym (opened-answer o image table (passes e)),
       (
         m .meta1 .ensures ∙ stored ∙ sym (opened-image o image table (passes e)),
-        c .before .mark-unused .ensures ∙ sym (opened-table o image table (passes e)),
+        c .before .blank .ensures
+            ∙ ap (λ (begun : ℕ). splice table 0 (blankCells begun (length (o .ranks)) (o .plan .planned))) (l .before .least-count .ensures)
+            ∙ sym (opened-table o image table (passes e)),
       ),
     )
 
@@ -132,13 +140,13 @@ open-spec =
     open-refusal-requires
     no-session-requires
     returns
-    cast-t15
+    cast-t16
+    least-count-requires
     lists-of-requires
     slice-aggregate-meta1
     meta1-requires
-    cast-mark-unused
-    mul-mark-unused
-    mark-unused-requires
+    cast-blank
+    blank-requires
     same-length
     same-length-2
     returns-2)

@@ -1,12 +1,10 @@
 -- Each return by the tests that led there.
-use mathlib.Core.Path.{_≡_, _∙_}
+use mathlib.Core.Path.{_≡_}
 use mathlib.Core.Bool.{true}
-use Prim.Native.Nat.{zero-le}
 use native.Mathlib.Omega.{arith}
 use borrow.Author.Needs.{needs}
-use borrow.Author.Tests.{le-leb}
-use Rattle.lists.proofs.Below.{all-cong, test-fails, test-holds}
-use Rattle.format.specs.Record.{countOf, headSound}
+use Rattle.lists.proofs.Below.{test-fails, test-holds}
+use Rattle.format.specs.Record.{headSound}
 use Rattle.format.proofs.Passing.{head-tasks}
 use Rattle.format.proofs.Stripes.{length-counts}
 use Rattle.format.specs.Session.{sessionSound}
@@ -43,6 +41,9 @@ part-counts-start c = search needs
 part-counts-end : tie.Need-part-counts-end
 part-counts-end c = omega (arith, start (c .before .before .before) .pre)
 
+least-count-requires : tie.Need-least-count-requires
+least-count-requires c κs = search needs
+
 cast-all-within : tie.Need-cast-all-within
 cast-all-within c = search needs
 
@@ -51,18 +52,16 @@ cast-all-within-2 c = search needs
 
 all-within-requires : tie.Need-all-within-requires
 all-within-requires c κs =
-    let h = c .before .before .before .before .before in
+    let h = c .before .before .before .before .before .before in
     let s = start (h .before) in
     omega (arith, head-tasks _ _ (sound-head h), length-counts (s .args .lists .now) (s .pre))
 
 returns-3 : tie.Need-returns-3
 unfolding sessionSound
 returns-3 c =
-    let e = c .before .before .before .before in
-    let h = e .before .before in
-    let a = start (h .before) .args in
-    rw (sound-head h, test-holds (e .before .planned-ok .ensures) (e .if2 .left))
-    (c .all-within .ensures ∙ all-cong _ _ _ (λ i l. rw (le-leb 0 (countOf (a .lists .now) i) zero-le)))
+    let e = c .before .before .before .before .before in
+    rw (sound-head (e .before .before), test-holds (e .before .planned-ok .ensures) (e .if2 .left), ← (c .before .before .before .least-count .ensures))
+    (c .all-within .ensures)
 
 pub session-ok-spec : {M : Type 1} → statement M
 session-ok-spec =
@@ -75,6 +74,7 @@ session-ok-spec =
     sub-counts
     part-counts-start
     part-counts-end
+    least-count-requires
     cast-all-within
     cast-all-within-2
     all-within-requires

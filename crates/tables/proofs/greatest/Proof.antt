@@ -8,8 +8,8 @@ use borrow.Author.Needs.{needs}
 use lib.ListN.{getD}
 use Rattle.lists.specs.Below.{greatestBelow}
 use Rattle.lists.proofs.Below.{greatest-none, greatest-more}
-use Rattle.rules.proofs.heads.greatest.Statement.{statement}
-use Rattle.rules.proofs.heads.greatest.Tie as tie
+use Rattle.tables.proofs.greatest.Statement.{statement}
+use Rattle.tables.proofs.greatest.Tie as tie
 
 abbrev Inv-loop : tie.InvT-loop
 Inv-loop values n most₀ i₀ most i = (i ≤ n) × (most ≡ greatestBelow i (λ j. getD values j 0))
