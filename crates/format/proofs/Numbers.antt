@@ -72,7 +72,7 @@ unfolding allBelow anyBelow sumBelow greatestBelow joinBelow flatten splice form
     closedImage writeRefusal afterWrite closeRefusal closeAnswer closeImage magicIn bigIn orderedIn tasksIn maxchunksIn headIn rankIn sizeIn meta2In
     startTests fieldTests fixedTests listTests lastTests restTests meta1Tests countIn valuesIn meta2Tests meta2Bytes loadedIn listsIn loadRefusal checkAnswer loadAnswer loadTable loadedTests readTests chunksUsed writtenIn
     totalOf totalAnswer totalsOf loaded rest containerLine lineOf countBy outcome feed idleTable
-idle-table = (refl, (refl, (refl, (refl, (refl, (refl, (refl, (refl, (refl, (refl, (refl, (refl, (refl, (refl, tt))))))))))))))
+idle-table = (refl, (refl, (refl, (refl, (refl, (refl, (refl, (refl, (refl, (refl, (refl, (refl, (refl, (refl, (refl, tt)))))))))))))))
 
 -- P1 to P13, and the numbers without a P
 pub p-table : Agrees pTable

@@ -3,7 +3,8 @@
 use crate::head::Head;
 use crate::head::LISTS;
 
-// The numbers of a session: the planned blocks K, and the closed mark, 0 where it is unset. Its counts are the chunks begun by each task.
+// The numbers of a session: the planned blocks K, and the closed mark, 0 where it is unset. Its counts are the chunks begun by each task, in format 4
+// at least 1.
 #[repr(C)]
 pub struct Session {
     pub head: Head,
