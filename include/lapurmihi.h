@@ -84,7 +84,7 @@ enum lapur_order {
     LAPUR_BIG = 1
 };
 
-/* A container's fileformat_version. In 4 a task that wrote nothing has its first chunk in use all the same, with 0 bytes; in 3 it has none. */
+/* A container's fileformat_version: in 4 a task that wrote nothing has one chunk of 0 bytes, in 3 a session gives it none and a load takes either. */
 enum lapur_format {
     LAPUR_FORMAT_3 = 3,
     LAPUR_FORMAT_4 = 4

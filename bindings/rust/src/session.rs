@@ -35,7 +35,7 @@ pub enum ByteOrder {
 #[derive(Clone, Copy, Debug, Default, PartialEq, Eq, Hash)]
 #[repr(u32)]
 pub enum Format {
-    /// A task that wrote nothing has no chunk.
+    /// A session gives a task that wrote nothing no chunk; a loaded container may have that, or one chunk with no bytes in it.
     #[default]
     V3 = 3,
     /// A task that wrote nothing has one chunk, with no bytes in it.
