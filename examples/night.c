@@ -118,6 +118,8 @@ static void show(const char *name)
     uint8_t *image = whole(name, &length);
 
     struct lapur_load_answer answer = lapur_load(image, length, table, LAPUR_CELLS);
+    if (answer.refusal != 0) /* xxd -s PLACE -l 8 shows the field */
+        fprintf(stderr, "at byte %" PRIu64 ": %s says %" PRId64 "\n", answer.fault.place, lapur_field_name(answer.fault.field), answer.fault.says);
     check("lapur_load", answer.refusal);
     const struct lapur_loaded *loaded = &answer.loaded;
     for (uint32_t task = 1; task <= loaded->numbers.n; task++) {

@@ -26,10 +26,11 @@
  *     lapur_prefix    where in the image its filename prefix lies
  *
  * Answers. Every call is accepted, with the number 0, or refused with the number of the first of its tests that fails. A refused call
- * changes nothing: no byte of the image or of an output, no cell of the table, nothing of a lent record. An accepted load says that the
- * container's structure is whole, not that its bytes are the ones that were sent: the format has no checksum, so a changed byte in a
- * chunk, the padding, the three version numbers, the flags, the prefix, a rank, a requested size or a written length may pass. Send a
- * checksum such as sha256sum's beside the file.
+ * changes nothing: no byte of the image or of an output, no cell of the table, nothing of a lent record. A refused load also says where it
+ * broke off: the offset of the first offending field, what it says and what it may say. An accepted load says that the container's
+ * structure is whole, not that its bytes are the ones that were sent: the format has no checksum, so a changed byte in a chunk, the
+ * padding, the three version numbers, the flags, the prefix, a rank, a requested size or a written length may pass. Send a checksum such
+ * as sha256sum's beside the file.
  *
  * What may come in. Any values at all: records, images, tables and numbers are tested by each call, and nothing has to hold beforehand.
  * Only these things about memory are assumed and not tested:
@@ -47,7 +48,7 @@
  * What is proved. The library has the functions that are only declared here, and each of them is proved: lapur_version,
  * lapur_chunk_size, lapur_needs, lapur_open, lapur_load, and those whose names end in _lent. lapur_write, lapur_close, lapur_chunk,
  * lapur_total, lapur_read, lapur_length and lapur_prefix are a few lines of C over the function of their name with _lent;
- * lapur_sentence, lapur_session_lists and lapur_loaded_lists are C alone.
+ * lapur_sentence, lapur_field_name, lapur_session_lists and lapur_loaded_lists are C alone.
  *
  * Link with liblapurmihi: `tools/install` puts the library, this header and a file for pkg-config where compilers find them, and
  * `tools/library` builds target/staticlib/liblapurmihi.a in the repository.
@@ -63,8 +64,8 @@ extern "C" {
 #endif
 
 /* The version of this header: 10,000 times its first number, 100 times its second, and its third. */
-#define LAPUR_VERSION 300
-#define LAPUR_VERSION_TEXT "0.3.0"
+#define LAPUR_VERSION 400
+#define LAPUR_VERSION_TEXT "0.4.0"
 
 /* The most tasks of a container, and the entries that a record has for them. */
 #define LAPUR_TASKS 64
@@ -172,6 +173,63 @@ static inline const char *lapur_sentence(uint32_t refusal)
     }
 }
 
+/* The fields at which a load breaks off, each with the refusal numbers that are given for it. */
+enum lapur_field {
+    /* the mark, with which an image begins: 1 */
+    LAPUR_FIELD_MARK = 1,
+    /* the number that tells the byte order: 2 */
+    LAPUR_FIELD_ORDER = 2,
+    /* the image's end, which comes too early: 3, 12 */
+    LAPUR_FIELD_IMAGE = 3,
+    /* fileformat_version: 4 */
+    LAPUR_FIELD_FORMAT = 4,
+    /* blocksize: 5 */
+    LAPUR_FIELD_BLOCKSIZE = 5,
+    /* ntasks, the number of tasks: 6 */
+    LAPUR_FIELD_TASKS = 6,
+    /* nfiles: 7 */
+    LAPUR_FIELD_FILES = 7,
+    /* filenumber: 7 */
+    LAPUR_FIELD_FILE_NUMBER = 8,
+    /* a task's rank, which is out of range or that of an earlier task: 8 */
+    LAPUR_FIELD_RANK = 9,
+    /* a task's requested size: 9 */
+    LAPUR_FIELD_SIZE = 10,
+    /* maxchunks: 11, or 13 where the greatest count is another */
+    LAPUR_FIELD_MAXCHUNKS = 11,
+    /* start_of_varheader, which says where META2 starts: 10, 12 */
+    LAPUR_FIELD_START = 12,
+    /* the lent table, which is no part of the image: 18 */
+    LAPUR_FIELD_TABLE = 13,
+    /* a task's count, in META2: 13 */
+    LAPUR_FIELD_COUNT = 14,
+    /* the bytes written to a chunk, or -1, in META2: 13 */
+    LAPUR_FIELD_VALUE = 15
+};
+
+/* A field's name, as in the format. */
+static inline const char *lapur_field_name(uint32_t field)
+{
+    switch (field) {
+    case LAPUR_FIELD_MARK: return "the mark";
+    case LAPUR_FIELD_ORDER: return "the order number";
+    case LAPUR_FIELD_IMAGE: return "the image's end";
+    case LAPUR_FIELD_FORMAT: return "fileformat_version";
+    case LAPUR_FIELD_BLOCKSIZE: return "blocksize";
+    case LAPUR_FIELD_TASKS: return "ntasks";
+    case LAPUR_FIELD_FILES: return "nfiles";
+    case LAPUR_FIELD_FILE_NUMBER: return "filenumber";
+    case LAPUR_FIELD_RANK: return "rank";
+    case LAPUR_FIELD_SIZE: return "requested size";
+    case LAPUR_FIELD_MAXCHUNKS: return "maxchunks";
+    case LAPUR_FIELD_START: return "start_of_varheader";
+    case LAPUR_FIELD_TABLE: return "the table";
+    case LAPUR_FIELD_COUNT: return "count";
+    case LAPUR_FIELD_VALUE: return "bytes written";
+    default: return "no such field";
+    }
+}
+
 /*
  * The records.
  *
@@ -262,10 +320,30 @@ struct lapur_closed_lent {
     uint64_t length;
 };
 
+/*
+ * Where a refused load broke off: the first offending field, by the order of the tests. Of an accepted load all of it is 0.
+ *
+ * The place is where the field stands in the image, so that `xxd -s PLACE -l 8 FILE` shows it. Three are no numbers of the image: of an
+ * image that is too short, place and says are its length, and least and most the bytes that it would need; of a table that is too short, the
+ * place is 0, says is the cells lent, and least and most the cells needed; and of the mark and the order number only place and field are told.
+ *
+ * A number from least to most breaks a second rule: a blocksize is no power of two, or a rank is that of an earlier task.
+ */
+struct lapur_fault {
+    uint64_t place;                        /* where in the image the field stands */
+    int64_t says;                          /* the number that stands there */
+    int64_t least;                         /* from where .. */
+    int64_t most;                          /* .. to where it may be */
+    uint32_t field;                        /* which field: a number of enum lapur_field */
+    uint32_t task;                         /* of which task, counted from 1; 0 where it is of none */
+    uint32_t chunk;                        /* of which chunk, counted from 1; 0 where it is of none */
+};
+
 /* What lapur_load answers. */
 struct lapur_load_answer {
     struct lapur_loaded loaded;
     uint32_t refusal;
+    struct lapur_fault fault;
 };
 
 /* What lapur_chunk and lapur_prefix answer: the bytes are image[start] up to, and without, image[start + length]. */
@@ -292,7 +370,8 @@ LAPUR_SIZE(needed, 24);
 LAPUR_SIZE(opened, 1576);
 LAPUR_SIZE(closed, 16);
 LAPUR_SIZE(closed_lent, 48);
-LAPUR_SIZE(load_answer, 1576);
+LAPUR_SIZE(fault, 48);
+LAPUR_SIZE(load_answer, 1624);
 LAPUR_SIZE(part, 24);
 LAPUR_SIZE(byte_count, 16);
 #undef LAPUR_SIZE
@@ -418,7 +497,9 @@ static inline struct lapur_closed lapur_close(
  * Tests: 1, 2, 3 (1076 bytes), 4, 5, 6, 7, 3 (all of META1), 8, 9, 10, 11, 12, 18 (table), 13.
  * Changes: the first n * maxchunks cells, which become the bytes written to chunk 1 of each task, then to chunk 2 of each, and so on; -1
  * stands for a chunk that the task did not use.
- * Hands back: the record, with the closed mark unset. Refused: a record of zeros, marked closed.
+ * Hands back: the record, with the closed mark unset. Refused: a record of zeros, marked closed, and where the load broke off: in 7 nfiles is
+ * judged before filenumber; in 8 and 9 the first task counts, of two equal ranks the later; in 12 start_of_varheader is judged before
+ * META2's end; in 13 all counts are, then maxchunks by the greatest of them, then the values, chunk 1 of each task first.
  */
 struct lapur_load_answer lapur_load(
     const uint8_t *image, size_t image_length,

@@ -1,7 +1,8 @@
 /*
  * Holds the header's inline functions to the whole record that they are given: with any one of its numbers or entries spoilt a call is refused
  * with 17 and changes nothing, and what is not judged comes through a session as it was, in both byte orders and both formats. What
- * lapur_chunk_size answers is held to what a write takes, and to its numbers at the bounds. It is C, and C++ too; tests/example runs it as both.
+ * lapur_chunk_size answers is held to what a write takes, and to its numbers at the bounds, and where a load breaks off to what was damaged. It is
+ * C, and C++ too; tests/example runs it as both.
  */
 #include <stdio.h>
 #include <stdlib.h>
@@ -191,7 +192,8 @@ static void read_it(struct load *l, const struct session *s)
 {
     memcpy(l->image, s->image, sizeof l->image);
     struct lapur_load_answer answer = lapur_load(l->image, BYTES, l->table, CELLS);
-    hold(answer.refusal == 0, "the load", 0);
+    const struct lapur_fault none = {0, 0, 0, 0, 0, 0, 0};
+    hold(answer.refusal == 0 && memcmp(&answer.fault, &none, offsetof(struct lapur_fault, chunk) + sizeof none.chunk) == 0, "the load", 0);
     l->record = answer.loaded;
     const uint32_t format = s->record.numbers.format;
     const struct lapur_loaded_numbers numbers = {s->record.numbers.order, -3, 77, format, 512, TASKS, K, 0};
@@ -213,6 +215,82 @@ static void read_it(struct load *l, const struct session *s)
         for (uint64_t i = 0; i < copied.bytes; i++)
             hold(out[i] == line[i % LINE], "the bytes of a read", (int)task);
     }
+}
+
+/* Where the numbers of the container stand. */
+enum { RANKS = 1076, SIZES = RANKS + 8 * TASKS, MAXCHUNKS = SIZES + 8 * TASKS, START = MAXCHUNKS + 4, META1 = START + 8 };
+enum { META2 = 1536 + K * (512 + 1024 + 512), VALUES = META2 + 8 * TASKS, END = VALUES + 8 * CELLS };
+
+static void put(uint8_t *image, uint32_t order, size_t at, int64_t number)
+{
+    size_t width = at < RANKS || at == MAXCHUNKS ? 4 : 8;
+    for (size_t i = 0; i < width; i++)
+        image[at + (order == LAPUR_BIG ? width - 1 - i : i)] = (uint8_t)((uint64_t)number >> 8 * i);
+}
+
+/* A load answers with this refusal and this fault, all of it, and the field has a name. */
+static void breaks(const uint8_t *image, size_t length, size_t cells, uint32_t refusal, struct lapur_fault wanted, int which)
+{
+    int64_t table[CELLS];
+    struct lapur_load_answer answer = lapur_load(image, length, table, cells);
+    struct lapur_fault found = answer.fault;
+    hold(answer.refusal == refusal && answer.loaded.numbers.closed == 1, "a refused load", which);
+    hold(found.place == wanted.place && found.field == wanted.field, "where a load broke off", which);
+    hold(found.says == wanted.says && found.least == wanted.least && found.most == wanted.most, "what a field says and may say", which);
+    hold(found.task == wanted.task && found.chunk == wanted.chunk, "whose field it is", which);
+    hold(strcmp(lapur_field_name(found.field), lapur_field_name(0)) != 0, "the name of a field", which);
+}
+
+/* A closed container of which one number is spoilt. */
+static int broken(const struct session *closed)
+{
+    static const struct { size_t at; int64_t number; uint32_t refusal; struct lapur_fault fault; } cases[] = {
+        {0, 7, LAPUR_NO_MARK, {0, 0, 0, 0, LAPUR_FIELD_MARK, 0, 0}},
+        {4, 2, LAPUR_NO_ORDER, {4, 0, 0, 0, LAPUR_FIELD_ORDER, 0, 0}},
+        {16, 5, LAPUR_BAD_FORMAT, {16, 5, 3, 4, LAPUR_FIELD_FORMAT, 0, 0}},
+        {20, -512, LAPUR_BAD_BLOCKSIZE, {20, -512, 512, 4194304, LAPUR_FIELD_BLOCKSIZE, 0, 0}},
+        {24, 65, LAPUR_BAD_TASKS, {24, 65, 1, LAPUR_TASKS, LAPUR_FIELD_TASKS, 0, 0}},
+        {28, 2, LAPUR_BAD_FILES, {28, 2, 1, 1, LAPUR_FIELD_FILES, 0, 0}},
+        {32, -1, LAPUR_BAD_FILES, {32, -1, 0, 0, LAPUR_FIELD_FILE_NUMBER, 0, 0}},
+        {RANKS + 8, INT64_MIN, LAPUR_BAD_RANK, {RANKS + 8, INT64_MIN, 0, INT32_MAX, LAPUR_FIELD_RANK, 2, 0}},
+        {RANKS + 16, 5, LAPUR_BAD_RANK, {RANKS + 16, 5, 0, INT32_MAX, LAPUR_FIELD_RANK, 3, 0}},
+        {SIZES, 0, LAPUR_BAD_SIZE, {SIZES, 0, 1, 1073741824, LAPUR_FIELD_SIZE, 1, 0}},
+        {START, 0, LAPUR_NOT_CLOSED, {START, 0, 1, INT64_MAX, LAPUR_FIELD_START, 0, 0}},
+        {MAXCHUNKS, 33, LAPUR_BAD_MAXCHUNKS, {MAXCHUNKS, 33, 0, LAPUR_BLOCKS, LAPUR_FIELD_MAXCHUNKS, 0, 0}},
+        {START, -1, LAPUR_BAD_META2_PLACE, {START, -1, META2, META2, LAPUR_FIELD_START, 0, 0}},
+        {META2, 1, LAPUR_BAD_META2, {MAXCHUNKS, K, 1, 1, LAPUR_FIELD_MAXCHUNKS, 0, 0}},
+        {VALUES + 8 * TASKS, 513, LAPUR_BAD_META2, {VALUES + 8 * TASKS, 513, 0, 512, LAPUR_FIELD_VALUE, 1, 2}},
+        {END - 8, 0, LAPUR_BAD_META2, {END - 8, 0, -1, -1, LAPUR_FIELD_VALUE, TASKS, K}},
+    };
+    static uint8_t image[BYTES];
+    int which, count = sizeof cases / sizeof *cases;
+    for (which = 0; which < count; which++) {
+        memcpy(image, closed->image, BYTES);
+        put(image, closed->record.numbers.order, cases[which].at, cases[which].number);
+        breaks(image, BYTES, CELLS, cases[which].refusal, cases[which].fault, which);
+    }
+    const struct lapur_fault counted = {META2 + 8, K + 1, closed->record.numbers.format == LAPUR_FORMAT_4, K, LAPUR_FIELD_COUNT, 2, 0};
+    memcpy(image, closed->image, BYTES);
+    put(image, closed->record.numbers.order, META2 + 8, K + 1);
+    breaks(image, BYTES, CELLS, LAPUR_BAD_META2, counted, count);
+    return count + 1;
+}
+
+/* The same container, of which too little is lent. */
+static int cut_short(const struct session *closed)
+{
+    static const struct { size_t needed; uint32_t refusal; } cuts[] = {
+        {RANKS, LAPUR_SHORT_META1}, {META1, LAPUR_SHORT_META1}, {END, LAPUR_BAD_META2_PLACE},
+    };
+    int which, count = sizeof cuts / sizeof *cuts;
+    for (which = 0; which < count; which++) {
+        const int64_t needed = (int64_t)cuts[which].needed;
+        const struct lapur_fault cut = {cuts[which].needed - 1, needed - 1, needed, needed, LAPUR_FIELD_IMAGE, 0, 0};
+        breaks(closed->image, cuts[which].needed - 1, CELLS, cuts[which].refusal, cut, which);
+    }
+    const struct lapur_fault table = {0, CELLS - 1, CELLS, CELLS, LAPUR_FIELD_TABLE, 0, 0};
+    breaks(closed->image, BYTES, CELLS - 1, LAPUR_TOO_SHORT, table, count);
+    return count + 1;
 }
 
 /* 4 is judged right after 2, before 5. */
@@ -285,15 +363,17 @@ int main(void)
 {
     static struct session session;
     static struct load load;
-    int spoilt = 0;
+    int spoilt = 0, faults = 0;
     for (uint32_t order = LAPUR_LITTLE; order <= LAPUR_BIG; order++)
         for (uint32_t format = LAPUR_FORMAT_3; format <= LAPUR_FORMAT_4; format++) {
             fill(&session, order, format);
             spoilt += refused_session(&session);
             close_it(&session);
             read_it(&load, &session);
+            faults += broken(&session) + cut_short(&session);
             spoilt += refused_reads(&load);
         }
-    printf("%d spoilt records, %d formats at opening, %d chunk sizes and %d at bounds\n", spoilt, formats(), chunk_sizes(), bounds());
+    printf("%d spoilt records, %d faults of loads, %d formats at opening, %d chunk sizes and %d at bounds\n", spoilt, faults, formats(),
+        chunk_sizes(), bounds());
     return 0;
 }

@@ -65,7 +65,7 @@ int main(void)
     raw_close(fresh(), session.numbers, lapur_session_lists(&session), image, sizeof image, table, 2);
     STORED(closed_lent, length);
     raw_load(fresh(), image, sizeof image, table, 2);
-    STORED(load_answer, refusal);
+    STORED(load_answer, fault);
     struct lapur_load_answer answer = lapur_load(image, sizeof image, table, 2);
     raw_chunk(fresh(), answer.loaded.numbers, lapur_loaded_lists(&answer.loaded), image, sizeof image, table, 2, 1, 1);
     STORED(part, length);

@@ -1,6 +1,6 @@
 //! Holds the reference's records as the library lays them out, so that the two can be compared.
 
-use lapurmihi::raw::{Loaded, LoadedNumbers, Session, SessionNumbers};
+use lapurmihi::raw::{Fault, Loaded, LoadedNumbers, Session, SessionNumbers};
 
 /// The reference's record of a session as the library has it.
 pub fn session_of(session: &reference::Session) -> Session {
@@ -20,4 +20,10 @@ pub fn loaded_of(loaded: &reference::Loaded) -> Loaded {
     let maxchunks = *maxchunks;
     let numbers = LoadedNumbers { order, version, patch, format, blocksize, n, maxchunks, closed };
     Loaded { numbers, ranks, sizes, counts }
+}
+
+/// Where the reference's load broke off as the library says it.
+pub fn fault_of(fault: &reference::Fault) -> Fault {
+    let reference::Fault { kind, place, says, least, most, task, chunk, .. } = *fault;
+    Fault { place, says, least, most, field: kind as u32, task, chunk }
 }

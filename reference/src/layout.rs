@@ -1,6 +1,7 @@
 //! Holds the numbers that bound the work, the rules built on them, what a chunk holds, and where chunks and META2 lie.
 
 use crate::demand;
+use std::ops::RangeInclusive;
 
 /// The four bytes every container starts with.
 pub const MARK: [u8; 4] = *b"sion";
@@ -10,8 +11,10 @@ pub const IDLE_FORMAT: u32 = 4;
 pub(crate) const MAX_TASKS: usize = 64;
 pub(crate) const MAX_CHUNKS: u32 = 32;
 pub(crate) const MAX_PREFIX: usize = 1024;
-const MAX_RANK: u64 = 2_147_483_647;
-const MAX_SIZE: u64 = 1_073_741_824;
+pub(crate) const MAX_RANK: u64 = 2_147_483_647;
+pub(crate) const MAX_SIZE: u64 = 1_073_741_824;
+/// Every fileformat_version.
+pub(crate) const FORMATS: RangeInclusive<i64> = 3..=IDLE_FORMAT as i64;
 
 /// Where the global ranks start, and the bytes that tests 4 to 7 need.
 pub(crate) const RANKS_AT: usize = 1076;
@@ -36,9 +39,8 @@ pub fn meta1_end(n: u64) -> u64 {
     n.saturating_mul(16).saturating_add(1088)
 }
 
-/// fileformat_version is 3 or 4.
 pub(crate) fn format_ok(format: u32) -> bool {
-    format == 3 || format == IDLE_FORMAT
+    FORMATS.contains(&i64::from(format))
 }
 
 pub(crate) fn blocksize_ok(blocksize: u32) -> bool {
@@ -46,12 +48,21 @@ pub(crate) fn blocksize_ok(blocksize: u32) -> bool {
 }
 
 pub(crate) fn ranks_ok(ranks: &[u64]) -> bool {
-    let fresh = |(i, rank)| !ranks[..i].contains(rank);
-    ranks.iter().all(|&rank| rank <= MAX_RANK) && ranks.iter().enumerate().all(fresh)
+    bad_rank(ranks).is_none()
+}
+
+/// The index of the first rank that is out of range or comes before it already.
+pub(crate) fn bad_rank(ranks: &[u64]) -> Option<usize> {
+    (0..ranks.len()).find(|&i| ranks[i] > MAX_RANK || ranks[..i].contains(&ranks[i]))
 }
 
 pub(crate) fn sizes_ok(sizes: &[u64]) -> bool {
-    sizes.iter().all(|size| (1..=MAX_SIZE).contains(size))
+    bad_size(sizes).is_none()
+}
+
+/// The index of the first size that is out of range.
+pub(crate) fn bad_size(sizes: &[u64]) -> Option<usize> {
+    sizes.iter().position(|size| !(1..=MAX_SIZE).contains(size))
 }
 
 /// What a chunk holds: its extended size, which is the requested size rounded up to a multiple of blocksize.

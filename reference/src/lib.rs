@@ -3,6 +3,7 @@
 
 mod bytes;
 mod container;
+mod fault;
 mod generator;
 mod layout;
 mod load;
@@ -15,6 +16,7 @@ mod tests;
 
 pub use bytes::Order;
 pub use container::{Container, Field};
+pub use fault::{Fault, Kind};
 pub use generator::Rng;
 pub use layout::{capacity, chunk_size, meta1_end, Layout, IDLE_FORMAT, MARK};
 pub use load::load;

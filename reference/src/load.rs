@@ -1,54 +1,72 @@
-//! Holds the loader: every test of a container, in the paper's order, and the record it leaves.
+//! Holds the loader: every test of a container, in the paper's order, the record it leaves, and where it breaks off.
 
-use crate::demand;
 use crate::layout::{
-    blocksize_ok, format_ok, maxchunks_at, meta1_end, ranks_ok, sizes_at, sizes_ok, start_at,
+    bad_rank, bad_size, blocksize_ok, maxchunks_at, meta1_end, sizes_at, start_at,
 };
-use crate::layout::{MARK, MAX_CHUNKS, MAX_TASKS, RANKS_AT};
-use crate::{Head, Loaded, Order};
+use crate::layout::{FORMATS, MARK, MAX_CHUNKS, MAX_RANK, MAX_SIZE, MAX_TASKS, RANKS_AT};
+use crate::{Fault, Head, Kind, Loaded, Order};
+use std::ops::RangeInclusive;
 
 /// Loads a container; tests in the order 1, 2, 3, 4, 5, 6, 7, 3, 8, 9, 10, 11, 12, 18, 13.
-pub fn load(image: &[u8], table: &mut [i64]) -> Result<Loaded, u32> {
+pub fn load(image: &[u8], table: &mut [i64]) -> Result<Loaded, Fault> {
     let order = byte_order(image)?;
     let mut head = scalars(image, order)?;
     lists(image, order, &mut head)?;
     let (maxchunks, meta2) = find_meta2(image, order, &head)?;
 
-    let n = head.tasks();
-    let cells = table.get_mut(..n * maxchunks as usize).ok_or(18u32)?;
-    let (counts, values) = meta2.split_at(8 * n);
-    for (count, value) in head.counts.iter_mut().zip(order.longs(counts)) {
-        *count = u64::try_from(value).map_err(|_| 13u32)?;
-    }
-    demand(head.greatest() == u64::from(maxchunks) && head.idle_ok(), 13)?;
-    let mut rows = values.chunks_exact(8 * n).zip(1..);
-    demand(rows.all(|(row, chunk)| head.row_ok(chunk, order.longs(row))), 13)?;
+    let need = head.tasks() * maxchunks as usize;
+    let lent = table.len() as i64;
+    let short = Fault::new(18, Kind::Table, 0, lent, need as i64..=need as i64);
+    let cells = table.get_mut(..need).ok_or(short)?;
+    counts(image, order, meta2, maxchunks, &mut head)?;
+    let first = meta2 + 8 * head.tasks();
+    values(image, order, first, maxchunks, &head)?;
 
-    for (cell, value) in cells.iter_mut().zip(order.longs(values)) {
+    for (cell, value) in cells.iter_mut().zip(order.longs(&image[first..])) {
         *cell = value;
     }
     Ok(Loaded { head, maxchunks })
 }
 
+/// The number, if it is in its range.
+fn within(
+    refusal: u32,
+    kind: Kind,
+    place: usize,
+    says: i64,
+    range: RangeInclusive<i64>,
+) -> Result<i64, Fault> {
+    let inside = range.contains(&says);
+    Fault::new(refusal, kind, place, says, range).unless(inside)?;
+    Ok(says)
+}
+
+/// Passes if the image has so many bytes.
+fn reaches(refusal: u32, image: &[u8], needed: u64) -> Result<(), Fault> {
+    Fault::short(refusal, image, needed).unless(image.len() as u64 >= needed)
+}
+
 /// Tests 1 and 2.
-fn byte_order(image: &[u8]) -> Result<Order, u32> {
-    demand(image.starts_with(&MARK), 1)?;
-    demand(image.len() >= 8, 2)?;
+fn byte_order(image: &[u8]) -> Result<Order, Fault> {
+    Fault::new(1, Kind::Mark, 0, 0, 0..=0).unless(image.starts_with(&MARK))?;
+    let unordered = Fault::new(2, Kind::Order, 4, 0, 0..=0);
+    unordered.unless(image.len() >= 8)?;
     let found = [Order::Little, Order::Big].into_iter().find(|order| order.int(image, 4) == 1);
-    found.ok_or(2)
+    found.ok_or(unordered)
 }
 
 /// Tests 3 (1076), 4, 5, 6, 7 and 3 (full).
-fn scalars(image: &[u8], order: Order) -> Result<Head, u32> {
-    demand(image.len() >= RANKS_AT, 3)?;
-    let format = u32::try_from(order.int(image, 16)).map_err(|_| 4u32)?;
-    demand(format_ok(format), 4)?;
-    let blocksize = u32::try_from(order.int(image, 20)).map_err(|_| 5u32)?;
-    demand(blocksize_ok(blocksize), 5)?;
-    let n = u32::try_from(order.int(image, 24)).map_err(|_| 6u32)?;
-    demand((1..=MAX_TASKS as u32).contains(&n), 6)?;
-    demand(order.int(image, 28) == 1 && order.int(image, 32) == 0, 7)?;
-    demand(image.len() as u64 >= meta1_end(u64::from(n)), 3)?;
+fn scalars(image: &[u8], order: Order) -> Result<Head, Fault> {
+    reaches(3, image, RANKS_AT as u64)?;
+    let number = |place| i64::from(order.int(image, place));
+    let format = within(4, Kind::Format, 16, number(16), FORMATS)? as u32;
+    let odd = Fault::new(5, Kind::Blocksize, 20, number(20), 512..=4_194_304);
+    let blocksize = u32::try_from(number(20)).map_err(|_| odd)?;
+    odd.unless(blocksize_ok(blocksize))?;
+    let n = within(6, Kind::Tasks, 24, number(24), 1..=MAX_TASKS as i64)? as u32;
+    within(7, Kind::Files, 28, number(28), 1..=1)?;
+    within(7, Kind::FileNumber, 32, number(32), 0..=0)?;
+    reaches(3, image, meta1_end(u64::from(n)))?;
 
     let (version, patch) = (order.int(image, 8), order.int(image, 12));
     let order = order.number();
@@ -56,7 +74,7 @@ fn scalars(image: &[u8], order: Order) -> Result<Head, u32> {
 }
 
 /// Tests 8 and 9; a negative number turns into one far over either bound.
-fn lists(image: &[u8], order: Order, head: &mut Head) -> Result<(), u32> {
+fn lists(image: &[u8], order: Order, head: &mut Head) -> Result<(), Fault> {
     let n = head.tasks();
     let ranks = order.longs(&image[RANKS_AT..sizes_at(n)]);
     let sizes = order.longs(&image[sizes_at(n)..maxchunks_at(n)]);
@@ -64,20 +82,64 @@ fn lists(image: &[u8], order: Order, head: &mut Head) -> Result<(), u32> {
         head.ranks[i] = rank as u64;
         head.sizes[i] = size as u64;
     }
-    demand(ranks_ok(&head.ranks[..n]), 8)?;
-    demand(sizes_ok(&head.sizes[..n]), 9)
+    if let Some(i) = bad_rank(&head.ranks[..n]) {
+        let (place, says) = (RANKS_AT + 8 * i, head.ranks[i] as i64);
+        return Err(Fault::new(8, Kind::Rank, place, says, 0..=MAX_RANK as i64).of_task(i));
+    }
+    if let Some(i) = bad_size(&head.sizes[..n]) {
+        let (place, says) = (sizes_at(n) + 8 * i, head.sizes[i] as i64);
+        return Err(Fault::new(9, Kind::Size, place, says, 1..=MAX_SIZE as i64).of_task(i));
+    }
+    Ok(())
 }
 
-/// Tests 10, 11 and 12; hands back maxchunks and the bytes of META2.
-fn find_meta2<'a>(image: &'a [u8], order: Order, head: &Head) -> Result<(u32, &'a [u8]), u32> {
+/// Tests 10, 11 and 12; hands back maxchunks and where META2 starts.
+fn find_meta2(image: &[u8], order: Order, head: &Head) -> Result<(u32, usize), Fault> {
     let n = head.tasks();
     let start = order.long(image, start_at(n));
-    demand(start != 0, 10)?;
-    let maxchunks = u32::try_from(order.int(image, maxchunks_at(n))).map_err(|_| 11u32)?;
-    demand(maxchunks <= MAX_CHUNKS, 11)?;
+    Fault::new(10, Kind::Start, start_at(n), 0, 1..=i64::MAX).unless(start != 0)?;
+    let (place, says) = (maxchunks_at(n), i64::from(order.int(image, maxchunks_at(n))));
+    let maxchunks = within(11, Kind::Maxchunks, place, says, 0..=i64::from(MAX_CHUNKS))?;
 
-    let layout = head.layout();
-    let (right, end) = (layout.meta2(u64::from(maxchunks)), layout.end(u64::from(maxchunks)));
-    demand(u64::try_from(start) == Ok(right) && end <= image.len() as u64, 12)?;
-    Ok((maxchunks, &image[right as usize..end as usize]))
+    let right = head.layout().meta2(maxchunks as u64) as i64;
+    within(12, Kind::Start, start_at(n), start, right..=right)?;
+    reaches(12, image, head.layout().end(maxchunks as u64))?;
+    Ok((maxchunks as u32, right as usize))
+}
+
+/// Test 13 of the counts, one by one, and of the greatest of them.
+fn counts(
+    image: &[u8],
+    order: Order,
+    meta2: usize,
+    maxchunks: u32,
+    head: &mut Head,
+) -> Result<(), Fault> {
+    let range = head.least_count() as i64..=i64::from(maxchunks);
+    for i in 0..head.tasks() {
+        let place = meta2 + 8 * i;
+        let count = within(13, Kind::Count, place, order.long(image, place), range.clone());
+        head.counts[i] = count.map_err(|fault| fault.of_task(i))? as u64;
+    }
+    let (greatest, place) = (head.greatest() as i64, maxchunks_at(head.tasks()));
+    within(13, Kind::Maxchunks, place, i64::from(maxchunks), greatest..=greatest)?;
+    Ok(())
+}
+
+/// Test 13 of the values, which start at `first`, in the order of their offsets.
+fn values(
+    image: &[u8],
+    order: Order,
+    first: usize,
+    maxchunks: u32,
+    head: &Head,
+) -> Result<(), Fault> {
+    let n = head.tasks();
+    for i in 0..n * maxchunks as usize {
+        let (chunk, task, place) = ((i / n) as u64 + 1, i % n, first + 8 * i);
+        let value = order.long(image, place);
+        within(13, Kind::Value, place, value, head.values(chunk, task))
+            .map_err(|fault| fault.of_task(task).of_chunk(chunk))?;
+    }
+    Ok(())
 }

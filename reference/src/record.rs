@@ -4,6 +4,7 @@ use crate::demand;
 use crate::layout::{blocksize_ok, capacity, format_ok, ranks_ok, sizes_ok, Layout};
 use crate::layout::{IDLE_FORMAT, MAX_CHUNKS, MAX_TASKS};
 use crate::Order;
+use std::ops::RangeInclusive;
 
 /// What both kinds of record hold; entries past n are not judged.
 #[derive(Clone, Debug, PartialEq, Eq)]
@@ -72,20 +73,18 @@ impl Head {
         self.counts[..self.tasks()].iter().copied().max().unwrap_or(0)
     }
 
-    /// In version 4 every count is at least 1.
-    pub(crate) fn idle_ok(&self) -> bool {
-        self.format != IDLE_FORMAT || !self.counts[..self.tasks()].contains(&0)
+    /// The least that a count may be: in version 4 it is 1.
+    pub(crate) fn least_count(&self) -> u64 {
+        u64::from(self.format == IDLE_FORMAT)
     }
 
-    /// META2's rule for the row of one chunk, counted from 1.
-    pub(crate) fn row_ok(&self, chunk: u64, row: impl Iterator<Item = i64>) -> bool {
-        row.enumerate().all(|(task, value)| {
-            if chunk <= self.counts[task] {
-                u64::try_from(value).is_ok_and(|written| written <= self.capacity(task))
-            } else {
-                value == -1
-            }
-        })
+    /// META2's rule for the value of a chunk, counted from 1, of a task, counted from 0: what it may be.
+    pub(crate) fn values(&self, chunk: u64, task: usize) -> RangeInclusive<i64> {
+        if chunk <= self.counts[task] {
+            0..=self.capacity(task) as i64
+        } else {
+            -1..=-1
+        }
     }
 
     /// Test 14: the index of a task counted from 1.
@@ -104,7 +103,7 @@ impl Head {
             && (1..=MAX_TASKS as u32).contains(&self.n)
             && ranks_ok(&self.ranks[..tasks])
             && sizes_ok(&self.sizes[..tasks])
-            && self.idle_ok()
+            && self.counts[..tasks].iter().all(|&count| count >= self.least_count())
     }
 
     /// Tests 18 and 19 of a sound record with `blocks` chunks to a task.
@@ -112,8 +111,8 @@ impl Head {
         let tasks = self.tasks();
         demand(image.len() as u64 >= self.layout().end(u64::from(blocks)), 18)?;
         let cells = table.get(..tasks * blocks as usize).ok_or(18u32)?;
-        let mut rows = cells.chunks_exact(tasks).zip(1..);
-        demand(rows.all(|(row, chunk)| self.row_ok(chunk, row.iter().copied())), 19)
+        let right = |(i, cell)| self.values((i / tasks) as u64 + 1, i % tasks).contains(cell);
+        demand(cells.iter().enumerate().all(right), 19)
     }
 }
 

@@ -25,7 +25,8 @@ fn describe(bytes: &[u8], sums: bool) -> String {
         return "long".to_string();
     }
     let mut table = vec![0; CELLS];
-    let answer = load(bytes, &mut table).and_then(|loaded| {
+    let loaded = load(bytes, &mut table).map_err(|fault| fault.refusal);
+    let answer = loaded.and_then(|loaded| {
         let plain = accepted(&loaded, bytes, &table)?;
         if !sums {
             return Ok(plain);
@@ -50,7 +51,7 @@ fn accepted(loaded: &Loaded, image: &[u8], table: &[i64]) -> Result<String, u32>
 fn short_answer(loaded: &Loaded, image: &[u8]) -> u32 {
     let values = loaded.head.n as usize * loaded.maxchunks as usize;
     let mut table = vec![0; values.saturating_sub(1)];
-    load(image, &mut table).err().unwrap_or(0)
+    load(image, &mut table).err().map_or(0, |fault| fault.refusal)
 }
 
 /// The checksum of all chunk parts, task by task.

@@ -5,7 +5,7 @@ use crate::each::{each, unopened};
 use crate::failure::Failure;
 use crate::text::{array, json, object, shown};
 use crate::{input, page, print, tell};
-use lapurmihi::{Container, OpenError, Refusal};
+use lapurmihi::{Container, LoadError, OpenError};
 use std::ffi::OsStr;
 use std::io::{stderr, IsTerminal};
 
@@ -23,14 +23,19 @@ usage: sion check [--quiet] [--json] FILE...
 Judges containers of any size, one line for each:
 
     night.sion: 0 2 1 27 10           accepted; 2 tasks, at most 1 chunk for each, their bytes
-    night.sion: 12 BAD_META2_PLACE    refused; 'sion explain 12' says what to do
+    night.sion: 13 BAD_META2 at byte 4640: chunk 2 of task 1 says 601 bytes, a chunk holds 512
+                                      refused; 'sion explain 13' says what to do
+
+The byte is where the first field that is wrong stands, and 'xxd -s 4640 -l 8 night.sion' shows it; of a file that is
+cut off it is the file's length.
 
 FILE '-' is standard input; what comes through a pipe is held in memory. What follows a container in its file is
 not looked at; 'sion show' counts it.
 
     --quiet    print nothing but failures of the system; the exit status says the rest
     --json     print a JSON object for each file: its refusal is 0 and the rest as above, or its name,
-               what it means and what to do; a file that cannot be read has an error
+               what it means, what to do, and the place, field, task and chunk at which it broke off with
+               what the field says and the least and most that it may; a file that cannot be read has an error
 
 Every file is judged, also after one that fails, but for a file that is shortened while it is read: that ends the
 run with 3. The exit status is 0 where all were accepted; 3 where a file could not be read or nothing could be
@@ -47,7 +52,7 @@ fn run(args: &Args) -> Result<(), Failure> {
         }
         _ if quiet => Ok(()),
         Ok(container) => print(&line(word, container)),
-        Err(OpenError::Refused(refusal)) => refused(word, *refusal),
+        Err(OpenError::Refused(error)) => refused(word, error),
     })
 }
 
@@ -59,9 +64,9 @@ fn line(word: &OsStr, container: &Container) -> String {
 }
 
 /// The line of a refusal, and for a person at a terminal what it means.
-fn refused(word: &OsStr, refusal: Refusal) -> Result<(), Failure> {
-    print(&format!("{}: {} {}\n", shown(word), refusal.number(), refusal.name()))?;
-    if let (true, Some(advice)) = (stderr().is_terminal(), page::advice(refusal)) {
+fn refused(word: &OsStr, error: &LoadError) -> Result<(), Failure> {
+    print(&format!("{}: {error}\n", shown(word)))?;
+    if let (true, Some(advice)) = (stderr().is_terminal(), page::advice(error.refusal)) {
         tell(&Failure::Refused(format!("{}: {advice}", input::name(word))));
     }
     Ok(())

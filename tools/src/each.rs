@@ -5,7 +5,7 @@ use crate::failure::{Failure, REFUSED, SYSTEM};
 use crate::progress::Progress;
 use crate::text::{json, object, reason};
 use crate::{input, page};
-use lapurmihi::{Container, OpenError};
+use lapurmihi::{Container, Fault, LoadError, OpenError};
 use std::ffi::{OsStr, OsString};
 
 /// Has each container that the words name told, or why it cannot be opened, and fails with the worst status. Where something cannot be
@@ -50,14 +50,28 @@ pub fn unopened(word: &OsStr, error: &OpenError) -> String {
     let mut fields = vec![("file", json(word))];
     match error {
         OpenError::File(error) => fields.push(("error", json(reason(error)))),
-        OpenError::Refused(refusal) => {
+        OpenError::Refused(LoadError { refusal, fault, .. }) => {
             fields.push(("refusal", refusal.number().to_string()));
             fields.push(("name", json(refusal.name())));
             if let Some(advice) = page::advice(*refusal) {
                 fields.push(("means", json(advice.means)));
                 fields.push(("do", json(advice.what_to_do)));
             }
+            fields.extend(place(fault));
         }
     }
     object(fields) + "\n"
+}
+
+/// Where a load broke off, as fields of JSON; a task or a chunk of 0 is none.
+fn place(fault: &Fault) -> [(&'static str, String); 7] {
+    [
+        ("place", fault.place().to_string()),
+        ("field", json(fault.field().name())),
+        ("task", fault.task().unwrap_or(0).to_string()),
+        ("chunk", fault.chunk().unwrap_or(0).to_string()),
+        ("says", fault.says().to_string()),
+        ("least", fault.least().to_string()),
+        ("most", fault.most().to_string()),
+    ]
 }

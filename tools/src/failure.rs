@@ -3,7 +3,7 @@
 use crate::page;
 use crate::signals::SHORTENED;
 use crate::text::{reason, shown};
-use lapurmihi::Refusal;
+use lapurmihi::{LoadError, Refusal};
 use std::fmt::Display;
 use std::io;
 use std::path::Path;
@@ -30,12 +30,21 @@ pub enum Failure {
 }
 
 impl Failure {
-    /// A container that the library refuses.
+    /// A container for which the library refuses a call.
     pub fn refused(container: &str, refusal: Refusal) -> Failure {
         let (number, name, sentence) = (refusal.number(), refusal.name(), refusal.sentence());
-        let line = format!("{container} is refused: {number} {name}, {sentence}");
+        Failure::advised(container, format!("{number} {name}, {sentence}"), refusal)
+    }
+
+    /// A container that the library refuses to load, and where it is broken.
+    pub fn broken(container: &str, error: &LoadError) -> Failure {
+        Failure::advised(container, error.to_string(), error.refusal)
+    }
+
+    /// Why a container is refused, and what to do.
+    fn advised(container: &str, why: String, refusal: Refusal) -> Failure {
         let advice = page::advice(refusal).map(|advice| format!("\n{advice}"));
-        Failure::Refused(line + &advice.unwrap_or_default())
+        Failure::Refused(format!("{container} is refused: {why}{}", advice.unwrap_or_default()))
     }
 
     /// A file with which something cannot be done.

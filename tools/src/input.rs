@@ -61,7 +61,7 @@ pub fn source(word: &OsStr) -> Result<Source, Failure> {
 pub fn failure(word: &OsStr, error: &OpenError) -> Failure {
     match error {
         OpenError::File(error) => Failure::system("read", &name(word), error),
-        OpenError::Refused(refusal) => Failure::refused(&name(word), *refusal),
+        OpenError::Refused(error) => Failure::broken(&name(word), error),
     }
 }
 
@@ -82,8 +82,8 @@ fn read(file: &mut impl Read) -> Result<Container<'static>, OpenError> {
         }
         if bytes.len() == more {
             let marked = Container::load(&bytes, &mut [0; CELLS]).map(drop);
-            marked.or_else(|refusal| match refusal {
-                Refusal::NoMark => Err(refusal),
+            marked.or_else(|error| match error.refusal {
+                Refusal::NoMark => Err(error),
                 _ => Ok(()),
             })?;
         }
@@ -106,7 +106,7 @@ mod tests {
 
     fn refusal(file: &mut impl Read) -> Option<Refusal> {
         match read(file) {
-            Err(OpenError::Refused(refusal)) => Some(refusal),
+            Err(OpenError::Refused(error)) => Some(error.refusal),
             other => panic!("{other:?}"),
         }
     }

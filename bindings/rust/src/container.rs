@@ -2,7 +2,7 @@
 
 use crate::memory::{Image, Table};
 use crate::refusal::accepted;
-use crate::{raw, ByteOrder, Format, OpenError, Refusal, Stream, CELLS};
+use crate::{raw, ByteOrder, Fault, Format, LoadError, OpenError, Refusal, Stream, CELLS};
 use std::fmt;
 use std::fs::File;
 use std::ops::Range;
@@ -54,7 +54,7 @@ impl Container<'static> {
     ///
     /// let night = night("../../examples/two-tasks.sion")?;
     /// assert_eq!(night.container.task_by_rank(0)?.total(), 501);
-    /// # Ok::<(), OpenError>(())
+    /// # Ok::<(), std::io::Error>(())
     /// ```
     pub fn open(path: impl AsRef<Path>) -> Result<Container<'static>, OpenError> {
         Container::map(&File::open(path)?)
@@ -68,28 +68,31 @@ impl Container<'static> {
     }
 
     /// Checks a container in bytes that it keeps, such as those that came over a network.
-    pub fn from_bytes(bytes: Vec<u8>) -> Result<Container<'static>, Refusal> {
+    pub fn from_bytes(bytes: Vec<u8>) -> Result<Container<'static>, LoadError> {
         Container::owned(Image::Owned(bytes))
     }
 
     /// A container over an image of its own, with a table that is long enough for each.
-    fn owned(image: Image<'static>) -> Result<Container<'static>, Refusal> {
+    fn owned(image: Image<'static>) -> Result<Container<'static>, LoadError> {
         let mut table = vec![0; CELLS];
         let record = loaded(&image, &mut table)?;
         Ok(Container { record, image, table: Table::Owned(table) })
     }
 }
 
-/// The record of an accepted load.
-fn loaded(image: &[u8], table: &mut [i64]) -> Result<raw::Loaded, Refusal> {
+/// The record of an accepted load, or where it broke off.
+fn loaded(image: &[u8], table: &mut [i64]) -> Result<raw::Loaded, LoadError> {
     let answer = raw::load(image, table);
-    accepted(answer.refusal).map(|()| answer.loaded)
+    match accepted(answer.refusal) {
+        Ok(()) => Ok(answer.loaded),
+        Err(refusal) => Err(LoadError { refusal, fault: Fault::new(answer.fault) }),
+    }
 }
 
 impl<'a> Container<'a> {
     /// Checks a container over lent memory, whatever its bytes are; nothing is allocated. What follows it in the image is not looked at. A
     /// table of [`CELLS`](crate::CELLS) cells is long enough for each; what stands in it does not matter.
-    pub fn load(image: &'a [u8], table: &'a mut [i64]) -> Result<Container<'a>, Refusal> {
+    pub fn load(image: &'a [u8], table: &'a mut [i64]) -> Result<Container<'a>, LoadError> {
         let record = loaded(image, table)?;
         Ok(Container { record, image: Image::Lent(image), table: Table::Lent(table) })
     }
@@ -197,7 +200,7 @@ impl fmt::Debug for Container<'_> {
 /// let mut end = [0; 4];
 /// assert_eq!(task.read_at(499, &mut end)?, 2); // up to the total
 /// assert_eq!(task.read_at(502, &mut end), Err(Refusal::PastTotal));
-/// # Ok::<(), lapurmihi::OpenError>(())
+/// # Ok::<(), std::io::Error>(())
 /// ```
 #[derive(Clone, Copy)]
 pub struct Task<'c> {

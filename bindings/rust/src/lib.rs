@@ -2,8 +2,9 @@
 //!
 //! A container holds the bytes of up to 64 tasks, in chunks. A task requests a size for its chunks, and a chunk holds this size rounded up to
 //! a multiple of the blocksize. The work is done by a library whose every function is proved. Every call is accepted or refused with one of
-//! the [`Refusal`]s. Tasks and chunks are counted from 1. A session, and a container over lent memory, allocate nothing but a [`Plan`]'s
-//! lists and prefix; [`Container::open`] and its kin own their table and what cannot be mapped.
+//! the [`Refusal`]s; a refused load has a [`LoadError`], which also says where it broke off. Tasks and chunks are counted from 1. A session,
+//! and a container over lent memory, allocate nothing but a [`Plan`]'s lists and prefix; [`Container::open`] and its kin own their table and
+//! what cannot be mapped.
 //!
 //! ```
 //! use lapurmihi::{Container, Plan, CELLS};
@@ -43,6 +44,8 @@ mod documents {
 }
 
 mod container;
+mod fault;
+mod load_error;
 mod mapping;
 mod memory;
 mod open_error;
@@ -53,6 +56,8 @@ mod stream;
 mod writer;
 
 pub use container::{Container, Task};
+pub use fault::{Fault, Field};
+pub use load_error::LoadError;
 pub use open_error::OpenError;
 pub use raw::{BLOCKS, CELLS, TASKS};
 pub use refusal::Refusal;

@@ -144,6 +144,26 @@ struct ClosedLent {
     length: u64,
 }
 
+/// Where a refused load broke off: the first offending field. All of it is 0 where the load was accepted.
+#[repr(C)]
+#[derive(Clone, Copy, Debug, Default, PartialEq, Eq)]
+pub struct Fault {
+    /// Where in the image it stands.
+    pub place: u64,
+    /// The number that stands there.
+    pub says: i64,
+    /// The least that it may be.
+    pub least: i64,
+    /// The most that it may be.
+    pub most: i64,
+    /// Which field it is: a number of [`Field`](crate::Field).
+    pub field: u32,
+    /// Of which task, counted from 1; 0 where it is of none.
+    pub task: u32,
+    /// Of which chunk, counted from 1; 0 where it is of none.
+    pub chunk: u32,
+}
+
 /// What loading answers.
 #[repr(C)]
 #[derive(Clone, Copy, Debug, PartialEq, Eq)]
@@ -152,6 +172,8 @@ pub struct LoadAnswer {
     pub loaded: Loaded,
     /// The refusal number or 0.
     pub refusal: u32,
+    /// Where it broke off.
+    pub fault: Fault,
 }
 
 /// Where the written bytes of a chunk, or the filename prefix, lie in the image.
@@ -399,7 +421,7 @@ pub fn close(session: &mut Session, image: &mut [u8], table: &[i64]) -> Closed {
     Closed { refusal: answer.refusal, length: answer.length }
 }
 
-/// Checks a container, and puts its bytes written to each chunk into the table.
+/// Checks a container, and puts its bytes written to each chunk into the table; refused, says where it broke off.
 #[inline]
 pub fn load(image: &[u8], table: &mut [i64]) -> LoadAnswer {
     unsafe { lapur_load(image.as_ptr(), image.len(), table.as_mut_ptr(), table.len()) }

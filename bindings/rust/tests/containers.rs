@@ -69,7 +69,7 @@ fn prefixes_are_read_back() {
 /// What a load answers, over a table that a refused one leaves as it was.
 fn load(image: &[u8], cells: usize) -> Result<(), Refusal> {
     let mut table = vec![CELL; cells];
-    let answer = Container::load(image, &mut table).map(drop);
+    let answer = Container::load(image, &mut table).map(drop).map_err(Refusal::from);
     assert!(answer.is_ok() || table.iter().all(|&cell| cell == CELL), "the table was changed");
     answer
 }

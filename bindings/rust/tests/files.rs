@@ -3,7 +3,7 @@
 mod common;
 
 use common::*;
-use lapurmihi::{Container, OpenError, Refusal};
+use lapurmihi::{Container, LoadError, OpenError, Refusal};
 use std::error::Error;
 use std::fs::{self, File};
 use std::io::{self, ErrorKind, Seek, SeekFrom, Write};
@@ -41,7 +41,7 @@ fn night(name: &str, bytes: &[u8]) -> Result<Night, OpenError> {
 
 fn refusal(answer: Result<Night, OpenError>) -> Refusal {
     match answer.map(drop) {
-        Err(OpenError::Refused(refusal)) => refusal,
+        Err(OpenError::Refused(error)) => error.refusal,
         other => panic!("{other:?}"),
     }
 }
@@ -128,25 +128,30 @@ fn a_file_that_says_no_length_is_read() {
     // The name of the thread, which the system makes up as it is read: it begins with the mark, and no order number follows.
     let named = thread::Builder::new().name("sion, no order".to_string());
     let opened = named.spawn(|| Container::open("/proc/thread-self/comm").map(drop)).unwrap();
-    let answer = opened.join().unwrap().unwrap_err();
-    assert!(matches!(answer, OpenError::Refused(Refusal::NoOrder)), "{answer}");
-    let answer = Container::open("/dev/null").unwrap_err();
-    assert!(matches!(answer, OpenError::Refused(Refusal::NoMark)), "{answer}");
+    let answer = opened.join().unwrap().unwrap_err().to_string();
+    assert!(answer.contains(": 2 NO_ORDER at byte 4: "), "{answer}");
+    let answer = Container::open("/dev/null").unwrap_err().to_string();
+    assert!(answer.contains(": 1 NO_MARK at byte 0: "), "{answer}");
 }
 
 #[test]
 fn bytes_are_kept() {
     let container = Container::from_bytes(SAMPLE.to_vec()).unwrap();
     assert_eq!(container.task(1).unwrap().chunk(1).unwrap(), bytes(501));
-    assert_eq!(Container::from_bytes(vec![]).unwrap_err(), Refusal::NoMark);
+    assert_eq!(Container::from_bytes(vec![]).unwrap_err().refusal, Refusal::NoMark);
 }
 
 #[test]
 fn an_open_error_is_an_error() {
-    let error = OpenError::from(Refusal::NotClosed);
-    assert!(error.to_string().starts_with("the container is refused: refusal 10: "), "{error}");
-    assert!(error.source().unwrap().is::<Refusal>());
-    assert_eq!(io::Error::from(error).downcast::<Refusal>().unwrap(), Refusal::NotClosed);
+    let refused = Container::from_bytes(SAMPLE[..100].to_vec()).unwrap_err();
+    assert!(refused.source().unwrap().is::<Refusal>());
+    assert_eq!(Refusal::from(refused), Refusal::ShortMeta1);
+    assert_eq!(io::Error::from(refused).downcast::<LoadError>().unwrap(), refused);
+
+    let error = OpenError::from(refused);
+    assert_eq!(error.to_string(), format!("the container is refused: {refused}"));
+    assert!(error.source().unwrap().is::<LoadError>());
+    assert_eq!(io::Error::from(error).downcast::<LoadError>().unwrap(), refused);
 
     let error = OpenError::from(io::Error::from(ErrorKind::NotFound));
     assert_eq!(error.to_string(), "the file cannot be read: entity not found");

@@ -3,8 +3,8 @@
 mod common;
 
 use common::{BEFORE, SAMPLE};
-use lapurmihi::raw::{self, ByteCount, Closed, LoadAnswer, Loaded, LoadedNumbers, Needed, Opened};
-use lapurmihi::raw::{Part, Plan, Session, SessionNumbers};
+use lapurmihi::raw::{self, ByteCount, Closed, Fault, LoadAnswer, Loaded, LoadedNumbers, Needed};
+use lapurmihi::raw::{Opened, Part, Plan, Session, SessionNumbers};
 use lapurmihi::{BLOCKS, CELLS, TASKS};
 use std::mem::{offset_of, size_of};
 
@@ -100,7 +100,21 @@ fn a_record_is_its_numbers_and_behind_them_its_lists_with_no_gap() {
     assert_eq!([session, loaded], [[32, 32 + 512, 32 + 1024]; 2]);
     assert_eq!([size_of::<Session>(), size_of::<Loaded>()], [32 + 3 * 512; 2]);
     assert_eq!([offset_of!(Opened, refusal), offset_of!(LoadAnswer, refusal)], [32 + 3 * 512; 2]);
-    assert_eq!([size_of::<Opened>(), size_of::<LoadAnswer>()], [40 + 3 * 512; 2]);
+    assert_eq!(offset_of!(LoadAnswer, fault), 40 + 3 * 512);
+    assert_eq!([size_of::<Opened>(), size_of::<LoadAnswer>()], [1576, 1576 + 48]);
+}
+
+#[test]
+fn a_fault_is_four_long_numbers_and_three_short_ones() {
+    let long = [
+        offset_of!(Fault, place),
+        offset_of!(Fault, says),
+        offset_of!(Fault, least),
+        offset_of!(Fault, most),
+    ];
+    assert_eq!(long, [0, 8, 16, 24]);
+    let short = [offset_of!(Fault, field), offset_of!(Fault, task), offset_of!(Fault, chunk)];
+    assert_eq!((short, size_of::<Fault>()), ([32, 36, 40], 48));
 }
 
 #[test]
@@ -126,7 +140,8 @@ fn records_survive_the_library() {
             LoadedNumbers { order, version, patch, format, blocksize, n, maxchunks, closed: 0 };
         let used = counts().map(|count| count.max(u64::from(format - 3)));
         let loaded = Loaded { numbers, ranks, sizes, counts: used };
-        assert_eq!(raw::load(&image, &mut table), LoadAnswer { loaded, refusal: 0 });
+        let fault = Fault::default();
+        assert_eq!(raw::load(&image, &mut table), LoadAnswer { loaded, refusal: 0, fault });
         for (task, count) in counts().into_iter().enumerate() {
             let total = raw::total(&loaded, &image, &table, task as u64 + 1);
             assert_eq!(total, ByteCount { refusal: 0, bytes: count * HOLDS as u64 });
@@ -192,7 +207,8 @@ fn refused_calls_hand_back_zeros_or_what_they_were_given() {
     assert_eq!(raw::write(&mut session, &mut [], &mut [], 1, b"x"), 17);
     assert_eq!(session, before);
     let loaded = NOT_LOADED;
-    assert_eq!(raw::load(b"", &mut []), LoadAnswer { loaded, refusal: 1 });
+    let fault = Fault { field: 1, ..Fault::default() };
+    assert_eq!(raw::load(b"", &mut []), LoadAnswer { loaded, refusal: 1, fault });
     assert_eq!(raw::chunk(&loaded, b"", &[], 1, 1), Part { refusal: 17, start: 0, length: 0 });
     assert_eq!(raw::total(&loaded, b"", &[], 1), ByteCount { refusal: 17, bytes: 0 });
     assert_eq!(raw::read(&loaded, b"", &[], 1, 0, &mut []), ByteCount { refusal: 17, bytes: 0 });

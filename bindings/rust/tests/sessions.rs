@@ -198,7 +198,7 @@ fn a_chunk_size_goes_by_the_blocksize() {
 fn a_session_that_is_not_closed_leaves_no_container() {
     let (mut image, mut table) = memory(&paper());
     paper().open(&mut image, &mut table).unwrap().write(1, b"x").unwrap();
-    assert_eq!(Container::load(&image, &mut table).unwrap_err(), Refusal::NotClosed);
+    assert_eq!(Container::load(&image, &mut table).unwrap_err().refusal, Refusal::NotClosed);
 }
 
 #[test]

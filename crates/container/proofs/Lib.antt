@@ -8,5 +8,6 @@ pub mod Starts
 pub mod WrittenBack
 pub mod Rooms
 pub mod Finished
+pub mod Where
 pub mod Earlier
 pub mod Main

@@ -13,6 +13,7 @@ use Rattle.format.proofs.Every.{every, says}
 use Rattle.container.proofs.Refusing.{load-number, load-refuses, chunk-refuses, chunk-judged, part-number, part-refuses, part-there, total-refuses, total-judged, read-refuses, read-judged, size-refuses, length-refuses, length-judged, prefix-refuses, prefix-judged, open-number, needs-refuses, needs-says, open-refuses, write-refuses, write-judged, close-refuses, close-judged, flag-ends}
 use Rattle.format.proofs.Outcomes.{empty-keeps}
 use Rattle.container.proofs.ReadsBack.{reads-back, refuses-back}
+use Rattle.container.proofs.Where.{says-where}
 use Rattle.container.proofs.Opens.{opens-exactly}
 use Rattle.container.proofs.Stores.{opening-stores, close-stores, closed-ends}
 use Rattle.container.proofs.Starts.{is-start, has-front}
@@ -56,6 +57,7 @@ opens o image table e = sym (open-number o image table) ∙ e
 pub promises : Promises
 promises = record {
   refusals = refusals;
+  says-where = λ image table. says-where image table;
   accepts-exactly =
       λ image table. record {
         only = λ e. only image (length table) (sym (load-number image table) ∙ e);

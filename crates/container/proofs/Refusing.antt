@@ -7,9 +7,11 @@ use native.Mathlib.Omega.{arith}
 use lib.Dec.{ltb, eqb}
 use lib.IntN.{ℤ}
 use lib.ListN.{length, take, drop, replicate}
+use Rattle.format.specs.declared.head.Head.{Head}
 use Rattle.format.specs.Refusals.{Test, test, firstFailing}
-use Rattle.format.specs.Judge.{startTests, fieldTests, fixedTests, listTests, lastTests, restTests, meta1Tests, meta2Tests}
+use Rattle.format.specs.Judge.{tasksIn, startTests, fieldTests, fixedTests, rankTests, requestedTests, lastTests, restTests, meta1Tests, countTests, greatestTest, valueTest, valueTests, countsTests, meta2Tests}
 use Rattle.format.proofs.Refusals.{Each, answered, when-refused, number-is}
+use Rattle.format.proofs.Verdicts.{each-append, each-join}
 use Rattle.format.specs.declared.loaded.LoadAnswer.{LoadAnswer}
 use Rattle.format.specs.declared.loaded.Part.{Part}
 use Rattle.format.specs.declared.loaded.ByteCount.{ByteCount}
@@ -22,7 +24,7 @@ use Rattle.format.specs.Write.{Request, capacityOf, spot, requestTests, writeRe
 use Rattle.format.specs.Close.{closeRefusal, closeAnswer, closeImage}
 use Rattle.format.proofs.Opening.{needs-number, needs-refused, open-plan, open-short, open-enough, refused-answer, refused-image, refused-table}
 use Rattle.format.proofs.Outcomes.{refused-keeps}
-use Rattle.format.specs.Load.{loadRefusal, checkAnswer, loadAnswer, loadTable}
+use Rattle.format.specs.Load.{loadTests, loadRefusal, loadFault, checkAnswer, loadAnswer, loadTable}
 use Rattle.format.specs.Reads.{Container, loadedTests, readTests, chunkRefusal, chunkBytes, chunkPart, chunkPlace, partAnswer, totalAnswer, readRefusal, readAnswer, readOutput}
 use Rattle.container.specs.Refusing.{loadNumbers, chunkNumbers, readNumbers, totalNumbers, needsNumbers, openNumbers, writeNumbers, sizeNumbers, recordNumbers, LoadRefuses, ChunkRefuses, PartRefuses, TotalRefuses, ReadRefuses, SizeRefuses, LengthRefuses, PrefixRefuses, NeedsRefuses, NeedsSays, OpenRefuses, WriteRefuses, CloseRefuses, Ended}
 use Rattle.format.specs.About.{sizeTests, chunkSizeAnswer, wholeRefusal, lengthAnswer, prefixAnswer}
@@ -47,16 +49,39 @@ module _ (image : List ℕ) (table : List ℤ) where
   unfolding loadAnswer checkAnswer
   load-number = number-is (loadRefusal image (length table)) _ _ (λ (a : LoadAnswer). a .refusal) refl refl
 
-  load-listed : OneOf (0 ∷ loadNumbers) (loadRefusal image (length table))
-  unfolding loadRefusal meta1Tests startTests fieldTests fixedTests listTests lastTests restTests meta2Tests listed
-  load-listed =
-      one-of-tests loadNumbers _ (
-        refl,
-        (refl, (refl, (refl, (refl, (refl, (refl, (refl, (refl, (refl, (refl, (refl, (refl, (refl, (refl, tt)))))))))))))),
-      )
+  abbrev Listed : List Test → Type 0
+  Listed = Each (λ t. listed (0 ∷ loadNumbers) (t .number) ≡ true)
 
-  answer-refused : 0 < loadRefusal image (length table)
-      → loadAnswer image table ≡ record { loaded = noLoaded; lists = noLists; refusal = loadRefusal image (length table) }
+  fixed-listed : Listed (fixedTests image (length image))
+  unfolding startTests fieldTests fixedTests listed
+  fixed-listed = (refl, (refl, (refl, (refl, (refl, (refl, (refl, (refl, (refl, tt)))))))))
+
+  last-listed : Listed (lastTests image (length image))
+  unfolding lastTests listed
+  last-listed = (refl, (refl, (refl, (refl, tt))))
+
+  rest-listed : Listed (restTests image (length image))
+  unfolding rankTests requestedTests restTests listed
+  rest-listed =
+      each-append _ (rankTests image) _ (each-join _ _ (λ i. (refl, tt)) (tasksIn image))
+      (each-append _ (requestedTests image) _ (each-join _ _ (λ i. (refl, tt)) (tasksIn image)) last-listed)
+
+  meta2-listed : (h : Head) (size : ℕ → ℕ) (maxchunks at : ℕ) (part : List ℕ) → Listed (meta2Tests h size maxchunks at part)
+  unfolding countTests greatestTest valueTest valueTests countsTests meta2Tests listed
+  meta2-listed h size maxchunks at part =
+      each-append _ (countsTests h size maxchunks at part) _
+      (each-append _ (countTests h size maxchunks at part) _ (each-join _ _ (λ i. (refl, tt)) (h .n)) (refl, tt))
+      (each-join _ _ (λ k. each-join _ _ (λ i. (refl, tt)) (h .n)) maxchunks)
+
+  load-listed : OneOf (0 ∷ loadNumbers) (loadRefusal image (length table))
+  unfolding loadRefusal loadTests meta1Tests listed
+  load-listed =
+      one-of-tests loadNumbers (loadTests image (length table))
+      (each-append _ (meta1Tests image (length image)) _ (each-append _ (fixedTests image (length image)) _ fixed-listed rest-listed)
+      (refl, meta2-listed _ _ _ _ _))
+
+  pub answer-refused : 0 < loadRefusal image (length table)
+      → loadAnswer image table ≡ record { loaded = noLoaded; lists = noLists; refusal = loadRefusal image (length table); fault = loadFault image (length table) }
   unfolding loadAnswer checkAnswer
   answer-refused r = when-refused _ _ _ r
 

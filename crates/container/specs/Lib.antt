@@ -1,5 +1,6 @@
 pub mod Refusing
 pub mod Format
+pub mod Where
 pub mod Start
 pub mod WrittenBack
 pub mod Room

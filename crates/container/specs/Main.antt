@@ -12,6 +12,7 @@ use Rattle.format.specs.Load.{loadAnswer}
 use Rattle.format.specs.Reads.{Container, loadedFrom}
 use Rattle.container.specs.Start.{Start, IsStart, HasFront, VersionsFit, Opens, openedStart, after, greatestCount}
 use Rattle.container.specs.Refusing.{Refusals}
+use Rattle.container.specs.Where.{SaysWhere}
 use Rattle.container.specs.Format.{AcceptsExactly, PartThere, ReadsBack, RefusesBack, OpensExactly, OpeningStores, CloseStores}
 use Rattle.container.specs.WrittenBack.{Finished, WrittenBack}
 use Rattle.container.specs.Room.{Claim, Alike}
@@ -21,6 +22,8 @@ use Rattle.container.specs.Versions.{inFormat, SameWrites}
 pub record Promises : Type 0 where
   -- demand 1: any bytes and any request
   pub refusals : Refusals
+  -- where a load broke off (W-205)
+  pub says-where : (image : List ℕ) → (table : List ℤ) → SaysWhere image table
   -- demand 2: exactly the format
   pub accepts-exactly : (image : List ℕ) → (table : List ℤ) → AcceptsExactly image table
   pub reads-back : (image : List ℕ) → (table : List ℤ) → (c : IsContainer image) → loadAnswer image table .refusal ≡ 0

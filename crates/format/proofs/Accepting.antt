@@ -1,32 +1,35 @@
 -- The tests of META1 and of META2 as facts: what holds of the fields where all of them pass, and that they pass where it holds.
-use mathlib.Core.Path.{_≡_, refl, sym, ap, ap₂, _∙_}
-use mathlib.Core.Bool.{Bool, true, false, not, _&&_, _||_, or-true, or-false}
-use mathlib.Core.List.{List}
+use mathlib.Core.Path.{_≡_, refl, sym, ap, _∙_}
+use mathlib.Core.Bool.{Bool, true, false, cond, not, _||_, or-true, or-false}
+use mathlib.Core.List.{List, [], _∷_}
 use Prim.Native.Nat.{ℕ, _≤_, _<_}
 use native.Mathlib.Nat.{le-refl}
 use native.Mathlib.Omega.{arith}
-use lib.Dec.{ltb}
+use lib.Dec.{ltb, eqb}
 use lib.IntN.{ℤ, pos}
 use lib.ListN.{length, take, getD}
 use lib.Seq.{length-take-le, getD-take, ext-getD}
 use borrow.Author.Tests.{ltb-false, le-ltb, eqb-true, eq-eqb, not-false}
+use Rattle.lists.specs.Below.{allBelow, firstNot, greatestBelow, listBelow}
 use Rattle.endian.specs.Number.{numberAt}
-use Rattle.endian.specs.Signed.{signBit, natural}
-use Rattle.lists.proofs.Below.{and-left, and-right, or-left, or-right, or-both, all-at, all-of}
+use Rattle.endian.specs.Signed.{signBit, within, natural}
+use Rattle.lists.proofs.Below.{and-left, and-right, or-right, or-both, all-at, all-of}
 use Rattle.endian.proofs.Number.{one-order}
 use Rattle.endian.proofs.Signed.{InRange, signed-pos, within-one, within-natural, within-holds, within-over}
-use Rattle.format.specs.Limits.{maxTasks, minBlocksize, maxBlocksize, maxRank, maxSize, maxBlocks, plainFormat, idleFormat, formatRule, blocksizeRule, tasksRule, ranksRule, sizesRule, maxchunksRule}
+use Rattle.format.specs.Limits.{maxTasks, minBlocksize, maxBlocksize, maxRank, maxSize, maxBlocks, plainFormat, idleFormat, formatRule, blocksizeRule, tasksRule, rankRule, ranksRule, sizesRule, maxchunksRule}
 use Rattle.format.specs.Layout.{meta1End, meta2Start}
 use Rattle.format.proofs.Chunks.{meta1-before-data}
 use Rattle.format.specs.declared.head.Head.{Head}
-use Rattle.format.specs.Refusals.{firstFailing}
+use Rattle.format.specs.declared.fault.Verdict.{Verdict}
+use Rattle.format.specs.Refusals.{Test, firstFailing, verdict, passed}
 use Rattle.format.specs.Meta1
 use Rattle.format.specs.Meta2
 use Rattle.format.specs.Record.{isBig, holds, meta2At, endAt}
-use Rattle.format.specs.Judge.{is, magicIn, bigIn, orderedIn, tasksIn, maxchunksIn, headIn, sizeIn, meta2In, startTests, fieldTests, fixedTests, listTests, lastTests, restTests, meta1Tests, countIn, meta2Tests}
-use Rattle.format.proofs.Refusals.{Numbered, none-fails, all-pass}
+use Rattle.format.specs.Judge.{is, magicIn, bigIn, orderedIn, tasksIn, maxchunksIn, headIn, sizeIn, meta2In, startTests, fieldTests, fixedTests, rankTests, requestedTests, lastTests, restTests, meta1Tests, countIn, countTests, greatestTest, valueTest, valueTests, countsTests, meta2Tests}
+use Rattle.format.proofs.Refusals.{Numbered, first-passes, both-pass, next-passes, none-fails, all-pass}
+use Rattle.format.proofs.Verdicts.{each-append, each-join, join-verdict, join-hold, join-pass, fields-numbered, fields-verdict, fields-hold, fields-pass}
 use Rattle.format.proofs.Formats.{format-natural}
-use Rattle.format.proofs.Rules.{blocksize-natural, tasks-natural, ranks-within, sizes-within}
+use Rattle.format.proofs.Rules.{blocksize-natural, tasks-natural, ranks-each, ranks-within, sizes-within}
 
 is-refl : (v : ℕ) → is v (pos v) ≡ true
 is-refl v = within-holds v v v (le-refl v) (le-refl v)
@@ -98,29 +101,75 @@ module _ (xs : List ℕ) where
       go false b = refl
 
   module _ (len : ℕ) where
+    pub start-numbered : Numbered (startTests xs len)
+    unfolding startTests
+    start-numbered = omega arith
+
+    pub field-numbered : Numbered (fieldTests xs len)
+    unfolding fieldTests
+    field-numbered = omega arith
+
+    pub fixed-numbered : Numbered (fixedTests xs len)
+    unfolding fixedTests startTests fieldTests
+    fixed-numbered = omega arith
+
+    pub rank-numbered : Numbered (rankTests xs)
+    unfolding rankTests
+    rank-numbered = fields-numbered 8 (omega arith) _ (rankRule (Meta1.rankField (bigIn xs) xs)) (tasksIn xs)
+
+    pub size-numbered : Numbered (requestedTests xs)
+    unfolding requestedTests
+    size-numbered = fields-numbered 9 (omega arith) _ (λ i. within 1 maxSize (Meta1.sizeField (bigIn xs) xs (tasksIn xs) i)) (tasksIn xs)
+
+    last-numbered : Numbered (lastTests xs len)
+    unfolding lastTests
+    last-numbered = omega arith
+
     pub meta1-numbered : Numbered (meta1Tests xs len)
-    unfolding meta1Tests startTests fieldTests fixedTests listTests lastTests restTests
-    meta1-numbered = omega arith
+    unfolding meta1Tests restTests
+    meta1-numbered =
+        each-append _ (fixedTests xs len) _ fixed-numbered
+        (each-append _ (rankTests xs) _ rank-numbered (each-append _ (requestedTests xs) _ size-numbered last-numbered))
+
+    -- ranks and sizes pass exactly where they keep their rules
+    pub ranks-hold : firstFailing (rankTests xs) ≡ 0 → ranksRule (tasksIn xs) (Meta1.rankField (bigIn xs) xs) ≡ true
+    unfolding rankTests
+    ranks-hold e = ranks-each (tasksIn xs) (Meta1.rankField (bigIn xs) xs) ∙ fields-hold 8 (omega arith) _ _ (tasksIn xs) e
+
+    pub sizes-hold : firstFailing (requestedTests xs) ≡ 0 → sizesRule (tasksIn xs) (Meta1.sizeField (bigIn xs) xs (tasksIn xs)) ≡ true
+    unfolding requestedTests sizesRule
+    sizes-hold e = fields-hold 9 (omega arith) _ _ (tasksIn xs) e
+
+    ranks-pass : ranksRule (tasksIn xs) (Meta1.rankField (bigIn xs) xs) ≡ true → firstFailing (rankTests xs) ≡ 0
+    unfolding rankTests
+    ranks-pass e = fields-pass 8 (omega arith) _ _ (tasksIn xs) (sym (ranks-each (tasksIn xs) (Meta1.rankField (bigIn xs) xs)) ∙ e)
+
+    sizes-pass : sizesRule (tasksIn xs) (Meta1.sizeField (bigIn xs) xs (tasksIn xs)) ≡ true → firstFailing (requestedTests xs) ≡ 0
+    unfolding requestedTests sizesRule
+    sizes-pass e = fields-pass 9 (omega arith) _ _ (tasksIn xs) e
 
     pub meta1-holds : firstFailing (meta1Tests xs len) ≡ 0 → Meta1Holds xs len
-    unfolding meta1Tests startTests fieldTests fixedTests listTests lastTests restTests
+    unfolding meta1Tests startTests fieldTests fixedTests lastTests restTests
     meta1-holds e =
-        let (mark, (order, (short, (format, (blocksize, (tasks, (files, (long, (ranks, (sizes, (unclosed, (maxchunks, (place, end)))))))))))))
-        = none-fails (meta1Tests xs len) meta1-numbered e in
+        let (fixed, rest) = both-pass (fixedTests xs len) _ fixed-numbered e in
+        let (ranks, rest) = both-pass (rankTests xs) _ rank-numbered rest in
+        let (sizes, last) = both-pass (requestedTests xs) _ size-numbered rest in
+        let (mark, (order, (short, (format, (blocksize, (tasks, (files, (fileNumber, (long, end))))))))) = none-fails (fixedTests xs len) fixed-numbered fixed in
+        let (unclosed, (maxchunks, (place, (fits, end)))) = none-fails (lastTests xs len) last-numbered last in
         record {
           magic-is = not-false _ (or-right (ltb len (length Meta1.magic)) _ mark);
           order-is = ordered (not-false _ (or-right (ltb len 8) _ order));
           format = not-false _ format;
           blocksize = not-false _ blocksize;
           tasks = not-false _ tasks;
-          files-are = within-one _ _ (and-left _ (is Meta1.fileNumber (Meta1.fileNumberField (bigIn xs) xs)) (not-false _ files));
-          file-number-is = within-one _ _ (and-right (is Meta1.fileCount (Meta1.filesField (bigIn xs) xs)) _ (not-false _ files));
+          files-are = within-one _ _ (not-false _ files);
+          file-number-is = within-one _ _ (not-false _ fileNumber);
           long = ltb-false _ _ long;
-          ranks = not-false _ ranks;
-          sizes = not-false _ sizes;
+          ranks = ranks-hold ranks;
+          sizes = sizes-hold sizes;
           maxchunks = not-false _ maxchunks;
-          start-is = within-one _ _ (not-false _ (or-left _ (ltb len (endAt (headIn xs) (sizeIn xs) (maxchunksIn xs))) place));
-          fits = ltb-false _ _ (or-right (not (is (meta2In xs) (Meta1.startField (bigIn xs) xs (tasksIn xs)))) _ place);
+          start-is = within-one _ _ (not-false _ place);
+          fits = ltb-false _ _ fits;
         }
 
     -- META2 never starts at 0
@@ -132,25 +181,24 @@ module _ (xs : List ℕ) where
         omega (arith, meta1-before-data b (tasksIn xs) some)
 
     pub meta1-passes : Meta1Holds xs len → firstFailing (meta1Tests xs len) ≡ 0
-    unfolding meta1Tests startTests fieldTests fixedTests listTests lastTests restTests meta1End
+    unfolding meta1Tests startTests fieldTests fixedTests lastTests restTests meta1End
     meta1-passes h =
         let start : ℕ = meta2In xs in
         let mark = or-both (le-ltb len (length Meta1.magic) (omega arith)) (ap not (h .magic-is)) in
         let order = or-both (le-ltb len 8 (omega arith)) (ap not (ordered-holds (h .order-is))) in
         let short = le-ltb len Meta1.fixedLength (omega arith) in
-        let format = ap not (h .format) in
-        let blocksize = ap not (h .blocksize) in
-        let tasks = ap not (h .tasks) in
-        let files = ap₂ (λ (y z : ℤ). not (is Meta1.fileCount y && is Meta1.fileNumber z)) (h .files-are) (h .file-number-is) in
+        let files = ap (λ (z : ℤ). not (is Meta1.fileCount z)) (h .files-are) in
+        let fileNumber = ap (λ (z : ℤ). not (is Meta1.fileNumber z)) (h .file-number-is) in
         let long = le-ltb len (meta1End (tasksIn xs)) (h .long) in
-        let ranks = ap not (h .ranks) in
-        let sizes = ap not (h .sizes) in
         let closed = ap (is 0) (h .start-is) ∙ within-over 0 0 start (start-some h) in
-        let maxchunks = ap not (h .maxchunks) in
-        let there = ap (λ (z : ℤ). not (is start z)) (h .start-is) ∙ ap not (is-refl start) in
-        let place = or-both there (le-ltb len (endAt (headIn xs) (sizeIn xs) (maxchunksIn xs)) (h .fits)) in
-        all-pass (meta1Tests xs len)
-        (mark, (order, (short, (format, (blocksize, (tasks, (files, (long, (ranks, (sizes, (closed, (maxchunks, (place, tt)))))))))))))
+        let place = ap (λ (z : ℤ). not (is start z)) (h .start-is) ∙ ap not (is-refl start) in
+        let fits = le-ltb len (endAt (headIn xs) (sizeIn xs) (maxchunksIn xs)) (h .fits) in
+        first-passes (fixedTests xs len) _ fixed-numbered
+        (all-pass (fixedTests xs len)
+        (mark, (order, (short, (ap not (h .format), (ap not (h .blocksize), (ap not (h .tasks), (files, (fileNumber, (long, tt))))))))))
+        ∙ first-passes (rankTests xs) _ rank-numbered (ranks-pass (h .ranks))
+        ∙ first-passes (requestedTests xs) _ size-numbered (sizes-pass (h .sizes))
+        ∙ all-pass (lastTests xs len) (closed, (ap not (h .maxchunks), (place, (fits, tt))))
 
 -- the fields are numbers in their ranges
 module _ {xs : List ℕ} {len : ℕ} (h : Meta1Holds xs len) where
@@ -180,19 +228,80 @@ module _ (h : Head) (size : ℕ → ℕ) (maxchunks : ℕ) (part : List ℕ) whe
     pub counts : Meta2.countsRule (h .format) (h .n) maxchunks (Meta2.countField (isBig h) part) ≡ true
     pub values : Meta2.valuesRule (h .n) maxchunks (holds h size) (countIn h part) (Meta2.valueField (isBig h) part (h .n)) ≡ true
 
-  meta2-numbered : Numbered (meta2Tests h size maxchunks part)
-  unfolding meta2Tests
-  meta2-numbered = omega arith
+  -- the value of chunk k + 1 of task i + 1 keeps its rule
+  abbrev pub valueKept : ℕ → ℕ → Bool
+  valueKept k i =
+      Meta2.valueRule (ltb k (countIn h part i)) (holds h size i) (Meta2.valueField (isBig h) part (h .n) (Meta2.valueIndex (h .n) k i))
 
-  pub meta2-holds : firstFailing (meta2Tests h size maxchunks part) ≡ 0 → Meta2Holds
-  unfolding meta2Tests
-  meta2-holds e =
-      let both = not-false _ (none-fails (meta2Tests h size maxchunks part) meta2-numbered e .0) in
-      record {
-        counts = and-left _ (Meta2.valuesRule (h .n) maxchunks (holds h size) (countIn h part) (Meta2.valueField (isBig h) part (h .n))) both;
-        values = and-right (Meta2.countsRule (h .format) (h .n) maxchunks (Meta2.countField (isBig h) part)) _ both;
-      }
+  abbrev rowKept : ℕ → Bool
+  rowKept k = allBelow (h .n) (valueKept k)
 
-  pub meta2-passes : Meta2Holds → firstFailing (meta2Tests h size maxchunks part) ≡ 0
-  unfolding meta2Tests
-  meta2-passes r = all-pass (meta2Tests h size maxchunks part) (rw (r .counts, r .values), tt)
+  -- the tests, of a part that starts at `at` of the image
+  module _ (at : ℕ) where
+    pub count-numbered : Numbered (countTests h size maxchunks at part)
+    unfolding countTests
+    count-numbered = fields-numbered 13 (omega arith) _ (λ i. within (Meta2.leastCount (h .format)) maxchunks (Meta2.countField (isBig h) part i)) (h .n)
+
+    pub greatest-numbered : 0 < greatestTest h size maxchunks at part .number
+    unfolding greatestTest
+    greatest-numbered = omega arith
+
+    -- the tests of a chunk's values, and of all
+    abbrev row : ℕ → List Test
+    row k = listBelow (h .n) (valueTest h size maxchunks at part k)
+
+    abbrev pub brokenIn : ℕ → Verdict
+    brokenIn k = record { refusal = 13; fault = valueTest h size maxchunks at part k (firstNot (h .n) (valueKept k)) .fault }
+
+    row-numbered : (k : ℕ) → Numbered (row k)
+    unfolding valueTest
+    row-numbered k = fields-numbered 13 (omega arith) _ (valueKept k) (h .n)
+
+    pub row-verdict : (k : ℕ) → verdict (row k) ≡ cond (allBelow (h .n) (valueKept k)) passed (brokenIn k)
+    unfolding valueTest
+    row-verdict k = fields-verdict 13 (omega arith) _ (valueKept k) (h .n)
+
+    pub values-verdict : verdict (valueTests h size maxchunks at part) ≡ cond (allBelow maxchunks rowKept) passed (brokenIn (firstNot maxchunks rowKept))
+    unfolding valueTests
+    values-verdict = join-verdict row rowKept brokenIn row-numbered (λ k. omega arith) row-verdict maxchunks
+
+    pub counts-numbered : Numbered (countsTests h size maxchunks at part)
+    unfolding countsTests
+    counts-numbered = each-append _ (countTests h size maxchunks at part) _ count-numbered (greatest-numbered, tt)
+
+    pub meta2-numbered : Numbered (meta2Tests h size maxchunks at part)
+    unfolding meta2Tests valueTests
+    meta2-numbered = each-append _ (countsTests h size maxchunks at part) _ counts-numbered (each-join _ row row-numbered maxchunks)
+
+    -- the counts pass exactly where they keep their rule
+    pub counts-hold : firstFailing (countsTests h size maxchunks at part) ≡ 0
+        → Meta2.countsRule (h .format) (h .n) maxchunks (Meta2.countField (isBig h) part) ≡ true
+    unfolding countsTests countTests greatestTest countIn Meta2.countsRule
+    counts-hold e =
+        let (counts, rest) = both-pass (countTests h size maxchunks at part) _ count-numbered e in
+        let (greatest, end) = next-passes (greatestTest h size maxchunks at part) [] greatest-numbered rest in
+        rw (fields-hold 13 (omega arith) _ _ (h .n) counts) (not-false _ greatest)
+
+    pub counts-pass : Meta2.countsRule (h .format) (h .n) maxchunks (Meta2.countField (isBig h) part) ≡ true
+        → firstFailing (countsTests h size maxchunks at part) ≡ 0
+    unfolding countsTests countTests greatestTest countIn Meta2.countsRule
+    counts-pass e =
+        first-passes (countTests h size maxchunks at part) _ count-numbered
+        (fields-pass 13 (omega arith) _ _ (h .n) (and-left _ (eqb (greatestBelow (h .n) (countIn h part)) maxchunks) e))
+        ∙ all-pass (greatestTest h size maxchunks at part ∷ [])
+        (ap not (and-right (allBelow (h .n) (λ i. within (Meta2.leastCount (h .format)) maxchunks (Meta2.countField (isBig h) part i))) _ e), tt)
+
+    pub meta2-holds : firstFailing (meta2Tests h size maxchunks at part) ≡ 0 → Meta2Holds
+    unfolding meta2Tests valueTests Meta2.valuesRule
+    meta2-holds e =
+        let (counts, values) = both-pass (countsTests h size maxchunks at part) _ counts-numbered e in
+        record {
+          counts = counts-hold counts;
+          values = join-hold row rowKept brokenIn row-numbered (λ k. omega arith) row-verdict maxchunks values;
+        }
+
+    pub meta2-passes : Meta2Holds → firstFailing (meta2Tests h size maxchunks at part) ≡ 0
+    unfolding meta2Tests valueTests Meta2.valuesRule
+    meta2-passes r =
+        first-passes (countsTests h size maxchunks at part) _ counts-numbered (counts-pass (r .counts))
+        ∙ join-pass row rowKept brokenIn row-numbered (λ k. omega arith) row-verdict maxchunks (r .values)

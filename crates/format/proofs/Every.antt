@@ -21,6 +21,7 @@ use Rattle.format.specs.Meta1
 use Rattle.format.specs.Meta2
 use Rattle.format.specs.Record.{cell, listsOf, orderOf, holds, headOf, meta2At, endAt}
 use Rattle.format.specs.Judge.{bigIn, tasksIn, maxchunksIn, headIn, rankIn, sizeIn, meta2In, countIn, valuesIn}
+use Rattle.format.specs.Refusals.{noFault}
 use Rattle.format.proofs.Refusals.{when-accepted}
 use Rattle.format.proofs.Rules.{counts-hold, values-hold, values-agree, valueIndex-lt}
 use Rattle.format.proofs.Stripes.{length-lists, lists-agree, rank-at, size-at, count-at, rank-made, size-made, count-made, rank-past, size-past, count-past}
@@ -193,7 +194,7 @@ module _ (image : List ℕ) (s : Contents) (one : HasMeta1 image s) (two : HasMe
   values-said = rw (isBig-order (s .big))
 
   module _ (table : List ℤ) (accepted : loadRefusal image (length table) ≡ 0) where
-    answer-is : loadAnswer image table ≡ record { loaded = loadedIn image; lists = listsIn image; refusal = 0 }
+    answer-is : loadAnswer image table ≡ record { loaded = loadedIn image; lists = listsIn image; refusal = 0; fault = noFault }
     unfolding loadAnswer checkAnswer
     answer-is = when-accepted _ _ _ accepted
 

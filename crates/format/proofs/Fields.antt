@@ -1,22 +1,24 @@
 -- A field of a container, signed in the rules, read as an unsigned number: the tests come out the same.
 use mathlib.Core.Path.{_≡_, refl, ap, sym, _∙_}
-use mathlib.Core.Bool.{Bool, true, false, cond, not, _&&_}
+use mathlib.Core.Bool.{Bool, true, false, not, _&&_}
 use mathlib.Core.List.{List, [], _∷_}
 use Prim.Native.Nat.{ℕ, _<_, _≤_, _^_}
 use native.Mathlib.Nat.{le-refl, le-antisymm}
 use native.Mathlib.Omega.{arith}
-use borrow.Author.Tests.{leb-true, le-leb, eqb-true, eqb-false}
+use borrow.Author.Tests.{leb-true, le-leb, eqb-true, eqb-false, not-false}
 use lib.Dec.{leb, ltb, eqb}
 use lib.IntN.{pos}
 use Rattle.endian.specs.Number.{numberAt}
 use Rattle.endian.specs.Signed.{signed, natural}
 use Rattle.lists.proofs.Below.{and-right}
 use Rattle.endian.proofs.Signed.{within-signed, within-facts, natural-signed}
-use Rattle.format.specs.Limits.{maxTasks, minBlocksize, maxBlocksize, maxBlocks, formatRule, tasksRule, powerOfTwo, blocksizeRule, maxchunksRule}
+use Rattle.format.specs.Limits.{maxTasks, minBlocksize, maxBlocksize, maxBlocks, plainFormat, idleFormat, formatRule, tasksRule, powerOfTwo, blocksizeRule, maxchunksRule}
 use Rattle.format.specs.Layout.{meta1End}
-use Rattle.format.specs.Refusals.{Test, test, firstFailing}
-use Rattle.format.specs.Meta1.{fileCount, fileNumber, filesField, fileNumberField}
-use Rattle.format.specs.Judge.{is, bigIn, tasksIn, fieldTests}
+use Rattle.format.specs.Kinds
+use Rattle.format.specs.Refusals.{Test, testAt, verdict}
+use Rattle.format.specs.Meta1.{fileCount, fileNumber, formatAt, blocksizeAt, tasksAt, filesAt, fileNumberAt}
+use Rattle.format.specs.Judge.{is, numberFault, endFault, bigIn, tasksIn, fieldTests}
+use Rattle.format.proofs.Verdicts.{fails-first, passes-first}
 use Rattle.format.proofs.Formats.{format-number}
 
 -- a field has one value
@@ -62,31 +64,33 @@ pub maxchunks-facts : (m : ℕ) → maxchunksRule (pos m) ≡ true → m ≤ max
 unfolding maxchunksRule
 maxchunks-facts m e = within-facts 0 maxBlocks m e .1
 
--- what is asked after a test that passed may use that it passed
-pub passed-agree : (t : Bool) (number x y : ℕ) → (t ≡ true → x ≡ y) → cond (not t) number x ≡ cond (not t) number y
-passed-agree true number x y h = h refl
-passed-agree false number x y h = refl
+-- ---- the tests of the fields before the lists, of unsigned readings: v of fileformat_version, b of blocksize, n of ntasks, f of nfiles and g of
+-- filenumber
 
--- the tests of the fields before the lists, of unsigned readings: v of fileformat_version, b of blocksize and n of ntasks
-abbrev pub unsignedTests : List ℕ → ℕ → Bool → ℕ → ℕ → ℕ → List Test
-unsignedTests xs len big v b n =
-    test 4 (not (formatRule (pos v)))
-    ∷ test 5 (not (blocksizeRule (pos b)))
-    ∷ test 6 (not (tasksRule (pos n)))
-    ∷ test 7 (not (is fileCount (filesField big xs) && is fileNumber (fileNumberField big xs)))
-    ∷ test 3 (ltb len (meta1End n))
+abbrev pub unsignedTests : ℕ → ℕ → ℕ → ℕ → ℕ → ℕ → List Test
+unsignedTests len v b n f g =
+    testAt 4 (numberFault Kinds.format formatAt (signed 31 v) plainFormat idleFormat) (not (formatRule (pos v)))
+    ∷ testAt 5 (numberFault Kinds.blocksize blocksizeAt (signed 31 b) minBlocksize maxBlocksize) (not (blocksizeRule (pos b)))
+    ∷ testAt 6 (numberFault Kinds.tasks tasksAt (signed 31 n) 1 maxTasks) (not (tasksRule (pos n)))
+    ∷ testAt 7 (numberFault Kinds.files filesAt (signed 31 f) fileCount fileCount) (not (eqb f fileCount))
+    ∷ testAt 7 (numberFault Kinds.fileNumber fileNumberAt (signed 31 g) fileNumber fileNumber) (not (eqb g fileNumber))
+    ∷ testAt 3 (endFault len (meta1End n)) (ltb len (meta1End n))
     ∷ []
 
-pub fields-unsigned : (xs : List ℕ) (len : ℕ) (big : Bool) (v b n : ℕ) → big ≡ bigIn xs → v ≡ numberAt big 4 xs 16 → b ≡ numberAt big 4 xs 20
-    → n ≡ numberAt big 4 xs 24 → firstFailing (fieldTests xs len) ≡ firstFailing (unsignedTests xs len big v b n)
-unfolding firstFailing fieldTests tasksIn
-fields-unsigned xs len big v b n same at16 at20 at24 =
-    rw (sym same, sym at16, sym at20, sym at24, format-number v, blocksize-number b, tasks-number n)
-    (ap
-    (λ (rest : ℕ). cond (not (formatRule (pos v))) 4 (cond (not (blocksizeRule (pos b))) 5 rest))
-    (passed-agree (tasksRule (pos n)) 6 _ _
+-- what is asked after a test that passed may use that it passed
+pub verdict-agree : (t : Test) (xs ys : List Test) → (t .fails ≡ false → verdict xs ≡ verdict ys) → verdict (t ∷ xs) ≡ verdict (t ∷ ys)
+verdict-agree t xs ys h = go (t .fails) refl
+  where
+    go : (b : Bool) → t .fails ≡ b → verdict (t ∷ xs) ≡ verdict (t ∷ ys)
+    go true e = fails-first t xs e ∙ sym (fails-first t ys e)
+    go false e = passes-first t xs e ∙ h e ∙ sym (passes-first t ys e)
+
+pub fields-unsigned : (xs : List ℕ) (len : ℕ) (big : Bool) (v b n f g : ℕ) → big ≡ bigIn xs → v ≡ numberAt big 4 xs formatAt
+    → b ≡ numberAt big 4 xs blocksizeAt → n ≡ numberAt big 4 xs tasksAt → f ≡ numberAt big 4 xs filesAt → g ≡ numberAt big 4 xs fileNumberAt
+    → verdict (fieldTests xs len) ≡ verdict (unsignedTests len v b n f g)
+unfolding fieldTests tasksIn
+fields-unsigned xs len big v b n f g same at16 at20 at24 at28 at32 =
+    rw (sym same, sym at16, sym at20, sym at24, sym at28, sym at32, format-number v, blocksize-number b, tasks-number n, is-number fileCount 31 f (omega arith), is-number fileNumber 31 g (omega arith))
+    (verdict-agree _ _ _ (λ _. verdict-agree _ _ _ (λ _. verdict-agree _ _ _
     (λ e.
-    ap
-    (λ (m : ℕ).
-    cond (not (is fileCount (filesField big xs) && is fileNumber (fileNumberField big xs))) 7 (cond (ltb len (meta1End m)) 3 0))
-    (natural-signed 31 n (omega (arith, tasks-facts n e .1))))))
+    rw (natural-signed 31 n (omega (arith, tasks-facts n (not-false _ e) .1))) refl))))

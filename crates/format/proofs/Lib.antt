@@ -4,6 +4,7 @@ pub mod Power
 pub mod Bounds
 pub mod Chunks
 pub mod Refusals
+pub mod Verdicts
 pub mod Filled
 pub mod Stripes
 pub mod Unsigned
@@ -30,3 +31,4 @@ pub mod Judging
 pub mod Opens
 pub mod Only
 pub mod Every
+pub mod Places

@@ -20,15 +20,6 @@ Numbered = Each (λ t. 0 < t .number)
 abbrev pub Passed : List Test → Type 0
 Passed = Each (λ t. t .fails ≡ false)
 
--- one test is asked: it fails, or the others are asked
-pub asked-fails : (t : Test) (ts : List Test) → t .fails ≡ true → firstFailing (t ∷ ts) ≡ t .number
-unfolding firstFailing
-asked-fails t ts e = rw e
-
-pub asked-passes : (t : Test) (ts : List Test) → t .fails ≡ false → firstFailing (t ∷ ts) ≡ firstFailing ts
-unfolding firstFailing
-asked-passes t ts e = rw e
-
 -- where the first list passes, the second is asked
 pub first-passes : (xs ys : List Test) → Numbered xs → firstFailing xs ≡ 0 → firstFailing (xs ++ ys) ≡ firstFailing ys
 unfolding firstFailing
@@ -101,3 +92,8 @@ module _ {ℓ} {A : Type ℓ} (r : ℕ) (a b : A) where
       go : (t : Bool) → eqb r 0 ≡ t → number (cond t a b) ≡ r
       go true e = accepted ∙ sym (eqb-true r 0 e)
       go false e = refused
+
+-- what an answer says in either case
+pub either-is : {A B : Type 0} (t : Bool) (a b : A) (f : A → B) {v : B} → f a ≡ v → f b ≡ v → f (cond t a b) ≡ v
+either-is true a b f accepted refused = accepted
+either-is false a b f accepted refused = refused

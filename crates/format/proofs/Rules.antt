@@ -10,9 +10,9 @@ use lib.IntN.{ℤ}
 use borrow.Author.Tests.{lt-ltb, le-ltb, ltb-true, ltb-false, eqb-true, eq-eqb}
 use Rattle.lists.specs.Below.{allBelow, greatestBelow}
 use Rattle.endian.specs.Signed.{within, sameZ, natural}
-use Rattle.lists.proofs.Below.{and-left, and-right, all-at, all-of, all-cong, greatest-at, greatest-ge, greatest-le}
+use Rattle.lists.proofs.Below.{and-left, and-right, all-at, all-of, all-cong, all-both, greatest-at, greatest-ge, greatest-le}
 use Rattle.endian.proofs.Signed.{InRange, within-natural, sameZ-eq, sameZ-refl}
-use Rattle.format.specs.Limits.{maxTasks, minBlocksize, maxBlocksize, maxSize, maxRank, powerOfTwo, tasksRule, blocksizeRule, ranksRule, sizesRule, allDifferent}
+use Rattle.format.specs.Limits.{maxTasks, minBlocksize, maxBlocksize, maxSize, maxRank, powerOfTwo, tasksRule, blocksizeRule, isNew, allDifferent, ranksRule, rankRule, sizesRule}
 use Rattle.format.specs.Meta2.{valueIndex, unused, valueRule, valuesRule, leastCount, countsRule}
 
 -- ---- blocksize, ranks and sizes
@@ -27,7 +27,7 @@ tasks-natural z e = within-natural 1 maxTasks z e
 
 module _ (n : ℕ) (rank : ℕ → ℤ) where
   ranks-apart : ranksRule n rank ≡ true → (i j : ℕ) → j < i → i < n → rank j ≡ rank i → ⊥
-  unfolding ranksRule allDifferent
+  unfolding ranksRule allDifferent isNew
   ranks-apart e i j l h same =
       let d = all-at _ i j l (all-at _ n i h (and-right (allBelow n (λ i. within 0 maxRank (rank i))) (allDifferent n rank) e)) in
       false≢true (rw (same, sameZ-refl) at d)
@@ -44,7 +44,7 @@ module _ (n : ℕ) (rank : ℕ → ℤ) where
 
   pub ranks-hold : ((i : ℕ) → i < n → within 0 maxRank (rank i) ≡ true)
       → ((i j : ℕ) → i < n → j < n → rank i ≡ rank j → i ≡ j) → ranksRule n rank ≡ true
-  unfolding ranksRule allDifferent
+  unfolding ranksRule allDifferent isNew
   ranks-hold range differ =
       rw (all-of (λ i. within 0 maxRank (rank i)) n range)
       (all-of _ n (λ i h. all-of _ i (λ j l. other i j l h (sameZ (rank j) (rank i)) refl)))
@@ -52,6 +52,11 @@ module _ (n : ℕ) (rank : ℕ → ℤ) where
       other : (i j : ℕ) → j < i → i < n → (b : Bool) → sameZ (rank j) (rank i) ≡ b → not b ≡ true
       other i j l h true e = absurd (omega (arith, differ j i (omega arith) h (sameZ-eq (rank j) (rank i) e)))
       other i j l h false e = refl
+
+  -- the rule of all is the rule of each
+  pub ranks-each : ranksRule n rank ≡ allBelow n (rankRule rank)
+  unfolding ranksRule allDifferent rankRule
+  ranks-each = sym (all-both (λ i. within 0 maxRank (rank i)) (isNew rank) n)
 
 module _ (n : ℕ) (size : ℕ → ℤ) where
   pub sizes-within : sizesRule n size ≡ true → (i : ℕ) → i < n → within 1 maxSize (size i) ≡ true

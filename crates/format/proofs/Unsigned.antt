@@ -2,21 +2,32 @@
 -- unsigned readings.
 use mathlib.Core.Path.{_≡_, refl, sym, ap, ap₂, _∙_}
 use mathlib.Core.Bool.{Bool, true, false, not, _&&_}
-use Prim.Native.Nat.{ℕ, _^_, _<_}
+use Prim.Native.Nat.{ℕ, _^_, _<_, _≤_}
 use native.Mathlib.Omega.{arith}
-use lib.Dec.{eqb}
+use lib.Dec.{ltb, eqb}
 use lib.IntN.{ℤ, pos}
+use borrow.Author.Tests.{ltb-true, ltb-false, ne-eqb}
 use Rattle.lists.specs.Below.{allBelow, greatestBelow}
 use Rattle.endian.specs.Signed.{signed, within, sameZ, natural}
 use Rattle.lists.proofs.Below.{all-at, all-cong, greatest-cong}
-use Rattle.endian.proofs.Signed.{signed-low, within-facts, within-signed}
-use Rattle.format.specs.Limits.{maxSize, maxRank, allDifferent, ranksRule, sizesRule}
+use Rattle.endian.proofs.Signed.{signed-low, signed-high, within-facts, within-signed}
+use Rattle.format.specs.Limits.{maxRank, isNew, rankRule}
 use Rattle.format.specs.Meta2.{leastCount, countsRule}
 
 -- two tests that agree where a first one holds
 and-agree : (a b c : Bool) → (a ≡ true → b ≡ c) → (a && b) ≡ (a && c)
 and-agree true b c h = h refl
 and-agree false b c h = refl
+
+-- a field compares with one below the sign bit as its unsigned reading does
+same-signed : (h m n : ℕ) → n < 2 ^ h → sameZ (signed h m) (signed h n) ≡ eqb m n
+same-signed h m n l = rw (signed-low h n l) (go (ltb m (2 ^ h)) refl)
+  where
+    go : (b : Bool) → ltb m (2 ^ h) ≡ b → sameZ (signed h m) (pos n) ≡ eqb m n
+    go true e = rw (signed-low h m (ltb-true _ _ e))
+    go false e =
+        let high : 2 ^ h ≤ m = ltb-false _ _ e in
+        rw (signed-high h m high) (sym (ne-eqb m n (λ e. omega arith)))
 
 -- n fields of h + 1 bits, f their bits, and g a reading of them
 module _ (h n : ℕ) (f g : ℕ → ℕ) (reads : (i : ℕ) → i < n → g i ≡ f i) where
@@ -49,20 +60,17 @@ module _ (h n : ℕ) (f g : ℕ → ℕ) (reads : (i : ℕ) → i < n → g i �
       (λ e. same (λ i. pos (g i)) (λ i. signed h (f i)) (field-unsigned lo hi l e))
       ∙ ap (λ (b : Bool). b && rest (λ i. signed h (f i))) (all-unsigned lo hi l)
 
-  -- ranks, sizes and counts
-  pub ranks-unsigned : maxRank < 2 ^ h → ranksRule n (λ i. pos (g i)) ≡ ranksRule n (λ i. signed h (f i))
-  unfolding ranksRule allDifferent
-  ranks-unsigned l =
-      rule-unsigned 0 maxRank l (allDifferent n)
-      (λ x y same.
-      all-cong (λ i. allBelow i (λ j. not (sameZ (x j) (x i)))) (λ i. allBelow i (λ j. not (sameZ (y j) (y i)))) n
-      (λ i m.
-      all-cong (λ j. not (sameZ (x j) (x i))) (λ j. not (sameZ (y j) (y i))) i
-      (λ j k. ap₂ (λ (a b : ℤ). not (sameZ a b)) (same j (omega arith)) (same i m))))
-
-  pub sizes-unsigned : maxSize < 2 ^ h → sizesRule n (λ i. pos (g i)) ≡ sizesRule n (λ i. signed h (f i))
-  unfolding sizesRule
-  sizes-unsigned l = all-unsigned 1 maxSize l
+  -- a rank, ranks, sizes and counts
+  pub rank-unsigned : maxRank < 2 ^ h → (i : ℕ) → i < n → rankRule (λ i. pos (g i)) i ≡ rankRule (λ i. signed h (f i)) i
+  unfolding rankRule isNew
+  rank-unsigned l i m =
+      and-agree _ (isNew (λ i. pos (g i)) i) (isNew (λ i. signed h (f i)) i)
+      (λ e.
+      let w = within-facts 0 maxRank (g i) e in
+      all-cong (λ j. not (sameZ (pos (g j)) (pos (g i)))) (λ j. not (sameZ (signed h (f j)) (signed h (f i)))) i
+      (λ j k. ap not (ap₂ (λ (a b : ℕ). eqb a b) (reads j (omega arith)) (reads i m) ∙ sym (same-signed h (f j) (f i) (omega (arith, reads i m))))))
+      ∙ ap (λ (b : Bool). b && isNew (λ i. signed h (f i)) i)
+      (ap (λ (v : ℕ). within 0 maxRank (pos v)) (reads i m) ∙ sym (within-signed 0 maxRank h (f i) l))
 
   pub counts-unsigned : (format maxchunks : ℕ) → maxchunks < 2 ^ h
       → countsRule format n maxchunks (λ i. pos (g i)) ≡ countsRule format n maxchunks (λ i. signed h (f i))

@@ -1,17 +1,20 @@
--- What the two metadata blocks of an image say, and the tests that each has to pass (document 01, "Order when loading": 1 to 12, and 13). META1
--- is judged from the image's first bytes, `xs`, and the image's whole length; META2 from its own part.
-use mathlib.Core.Bool.{Bool, true, false, not, _&&_, _||_}
+-- What the two metadata blocks of an image say, and the tests that each has to pass (document 01, "Order when loading": 1 to 12, and 13), each with
+-- the field that it judges (W-205): a field that stands n times is n tests. META1 is judged from the image's first bytes, `xs`, and the image's whole
+-- length; META2 from its own part.
+use mathlib.Core.Bool.{Bool, true, false, cond, not, _||_}
 use mathlib.Core.List.{List, [], _∷_, _++_}
-use Prim.Native.Nat.{ℕ, _+_, _*_}
+use Prim.Native.Nat.{ℕ, suc, _+_, _*_}
 use lib.Dec.{ltb, eqb}
-use lib.IntN.{ℤ}
+use lib.IntN.{ℤ, pos}
 use lib.ListN.{length, getD}
-use Rattle.lists.specs.Below.{allBelow, listBelow}
+use Rattle.lists.specs.Below.{allBelow, greatestBelow, joinBelow, listBelow}
 use Rattle.endian.specs.Signed.{within, natural}
-use Rattle.format.specs.Limits.{formatRule, blocksizeRule, tasksRule, ranksRule, sizesRule, maxchunksRule}
+use Rattle.format.specs.Limits.{maxTasks, minBlocksize, maxBlocksize, maxSize, maxBlocks, maxRank, plainFormat, idleFormat, formatRule, blocksizeRule, tasksRule, rankRule, maxchunksRule}
 use Rattle.format.specs.Layout.{meta1End}
 use Rattle.format.specs.declared.head.Head.{Head}
-use Rattle.format.specs.Refusals.{Test, test}
+use Rattle.format.specs.declared.fault.Fault.{Fault}
+use Rattle.format.specs.Refusals.{Test, testAt, faultOf}
+use Rattle.format.specs.Kinds
 use Rattle.format.specs.Meta1
 use Rattle.format.specs.Meta2
 use Rattle.format.specs.Record.{isBig, orderOf, holds, meta2At, endAt, headOf}
@@ -19,6 +22,18 @@ use Rattle.format.specs.Record.{isBig, orderOf, holds, meta2At, endAt, h
 -- a field has this one value
 abbrev pub is : ℕ → ℤ → Bool
 is v field = within v v field
+
+-- the greatest number of 8 bytes, which start_of_varheader is at most
+abbrev pub maxStart : ℕ
+maxStart = 9_223_372_036_854_775_807
+
+-- ---- a field of no task that is not from `least` to `most`; and the image's end, where it has fewer bytes than are needed
+
+abbrev pub numberFault : ℕ → ℕ → ℤ → ℕ → ℕ → Fault
+numberFault kind place says least most = faultOf kind 0 0 place says (pos least) (pos most)
+
+abbrev pub endFault : ℕ → ℕ → Fault
+endFault len needed = numberFault Kinds.image len (pos len) needed needed
 
 -- ---- what the first bytes say
 
@@ -55,46 +70,62 @@ module _ (xs : List ℕ) where
   unfoldable pub meta2In : ℕ
   meta2In = meta2At headIn sizeIn maxchunksIn
 
-  -- "1, 2, 3 (1076)", of an image of `len` bytes
+  -- "1, 2, 3 (1076)", of an image of `len` bytes; the mark and the order say nothing
   unfoldable pub startTests : ℕ → List Test
   startTests len =
-      test 1 (ltb len (length Meta1.magic) || not magicIn)
-      ∷ test 2 (ltb len 8 || not orderedIn)
-      ∷ test 3 (ltb len Meta1.fixedLength)
+      testAt 1 (numberFault Kinds.mark 0 (pos 0) 0 0) (ltb len (length Meta1.magic) || not magicIn)
+      ∷ testAt 2 (numberFault Kinds.order Meta1.orderAt (pos 0) 0 0) (ltb len 8 || not orderedIn)
+      ∷ testAt 3 (endFault len Meta1.fixedLength) (ltb len Meta1.fixedLength)
       ∷ []
 
-  -- "4, 5, 6, 7, 3 (full)"
+  -- "4, 5, 6, 7, 3 (full)": in 7 nfiles is judged before filenumber
   unfoldable pub fieldTests : ℕ → List Test
   fieldTests len =
-      test 4 (not (formatRule (Meta1.formatField bigIn xs)))
-      ∷ test 5 (not (blocksizeRule (Meta1.blocksizeField bigIn xs)))
-      ∷ test 6 (not (tasksRule (Meta1.tasksField bigIn xs)))
-      ∷ test 7 (not (is Meta1.fileCount (Meta1.filesField bigIn xs) && is Meta1.fileNumber (Meta1.fileNumberField bigIn xs)))
-      ∷ test 3 (ltb len (meta1End tasksIn))
+      let format = Meta1.formatField bigIn xs in
+      let blocksize = Meta1.blocksizeField bigIn xs in
+      let tasks = Meta1.tasksField bigIn xs in
+      let files = Meta1.filesField bigIn xs in
+      let fileNumber = Meta1.fileNumberField bigIn xs in
+      testAt 4 (numberFault Kinds.format Meta1.formatAt format plainFormat idleFormat) (not (formatRule format))
+      ∷ testAt 5 (numberFault Kinds.blocksize Meta1.blocksizeAt blocksize minBlocksize maxBlocksize) (not (blocksizeRule blocksize))
+      ∷ testAt 6 (numberFault Kinds.tasks Meta1.tasksAt tasks 1 maxTasks) (not (tasksRule tasks))
+      ∷ testAt 7 (numberFault Kinds.files Meta1.filesAt files Meta1.fileCount Meta1.fileCount) (not (is Meta1.fileCount files))
+      ∷ testAt 7 (numberFault Kinds.fileNumber Meta1.fileNumberAt fileNumber Meta1.fileNumber Meta1.fileNumber) (not (is Meta1.fileNumber fileNumber))
+      ∷ testAt 3 (endFault len (meta1End tasksIn)) (ltb len (meta1End tasksIn))
       ∷ []
 
   -- those of the fields that stand in every META1 at the same place
   unfoldable pub fixedTests : ℕ → List Test
   fixedTests len = startTests len ++ fieldTests len
 
-  -- "8, 9"
-  unfoldable pub listTests : List Test
-  listTests =
-      test 8 (not (ranksRule tasksIn (Meta1.rankField bigIn xs)))
-      ∷ test 9 (not (sizesRule tasksIn (Meta1.sizeField bigIn xs tasksIn)))
-      ∷ []
+  -- "8": each rank in turn, so that "For a repeated rank it is the later of the pair, taking the earliest such one"
+  unfoldable pub rankTests : List Test
+  rankTests =
+      let rank = Meta1.rankField bigIn xs in
+      listBelow tasksIn (λ i. testAt 8 (faultOf Kinds.rank (suc i) 0 (Meta1.rankAt i) (rank i) (pos 0) (pos maxRank)) (not (rankRule rank i)))
 
-  -- "10, 11, 12"
+  -- "9": each size in turn
+  unfoldable pub requestedTests : List Test
+  requestedTests =
+      let size = Meta1.sizeField bigIn xs tasksIn in
+      listBelow tasksIn
+      (λ i. testAt 9 (faultOf Kinds.size (suc i) 0 (Meta1.sizeAt tasksIn i) (size i) (pos 1) (pos maxSize)) (not (within 1 maxSize (size i))))
+
+  -- "10, 11, 12": "In 12 the field is judged before the fit"
   unfoldable pub lastTests : ℕ → List Test
   lastTests len =
-      test 10 (is 0 (Meta1.startField bigIn xs tasksIn))
-      ∷ test 11 (not (maxchunksRule (Meta1.maxchunksField bigIn xs tasksIn)))
-      ∷ test 12 (not (is meta2In (Meta1.startField bigIn xs tasksIn)) || ltb len (endAt headIn sizeIn maxchunksIn))
+      let maxchunks = Meta1.maxchunksField bigIn xs tasksIn in
+      let start = Meta1.startField bigIn xs tasksIn in
+      let end = endAt headIn sizeIn maxchunksIn in
+      testAt 10 (numberFault Kinds.start (Meta1.startAt tasksIn) start 1 maxStart) (is 0 start)
+      ∷ testAt 11 (numberFault Kinds.maxchunks (Meta1.lastAt tasksIn) maxchunks 0 maxBlocks) (not (maxchunksRule maxchunks))
+      ∷ testAt 12 (numberFault Kinds.start (Meta1.startAt tasksIn) start meta2In meta2In) (not (is meta2In start))
+      ∷ testAt 12 (endFault len end) (ltb len end)
       ∷ []
 
   -- those of the lists and of the last two fields
   unfoldable pub restTests : ℕ → List Test
-  restTests len = listTests ++ lastTests len
+  restTests len = rankTests ++ (requestedTests ++ lastTests len)
 
   unfoldable pub meta1Tests : ℕ → List Test
   meta1Tests len = fixedTests len ++ restTests len
@@ -108,11 +139,37 @@ countIn h part i = natural (Meta2.countField (isBig h) part i)
 unfoldable pub valuesIn : Head → ℕ → List ℕ → List ℤ
 valuesIn h maxchunks part = listBelow (h .n * maxchunks) (Meta2.valueField (isBig h) part (h .n))
 
--- "13": "a count or value of META2 breaks its rule"
-unfoldable pub meta2Tests : Head → (ℕ → ℕ) → ℕ → List ℕ → List Test
-meta2Tests h size maxchunks part =
-    test 13
-    (not
-    (Meta2.countsRule (h .format) (h .n) maxchunks (Meta2.countField (isBig h) part)
-    && Meta2.valuesRule (h .n) maxchunks (holds h size) (countIn h part) (Meta2.valueField (isBig h) part (h .n))))
-    ∷ []
+-- "13": "counts (0 to maxchunks) are judged first, then whether the greatest is maxchunks (place: the maxchunks field), then the values", in the order
+-- of their offsets; the part starts at `at` of the image
+module _ (h : Head) (size : ℕ → ℕ) (maxchunks at : ℕ) (part : List ℕ) where
+  unfoldable pub countTests : List Test
+  countTests =
+      let count = Meta2.countField (isBig h) part in
+      let least = Meta2.leastCount (h .format) in
+      listBelow (h .n)
+      (λ i. testAt 13 (faultOf Kinds.count (suc i) 0 (at + 8 * i) (count i) (pos least) (pos maxchunks)) (not (within least maxchunks (count i))))
+
+  unfoldable pub greatestTest : Test
+  greatestTest =
+      let greatest = greatestBelow (h .n) (countIn h part) in
+      testAt 13 (numberFault Kinds.maxchunks (Meta1.lastAt (h .n)) (pos maxchunks) greatest greatest) (not (eqb greatest maxchunks))
+
+  -- of chunk k + 1 of task i + 1
+  unfoldable pub valueTest : ℕ → ℕ → Test
+  valueTest k i =
+      let used = ltb k (countIn h part i) in
+      let j = Meta2.valueIndex (h .n) k i in
+      let value = Meta2.valueField (isBig h) part (h .n) j in
+      testAt 13
+      (faultOf Kinds.value (suc i) (suc k) (at + 8 * h .n + 8 * j) value (cond used (pos 0) Meta2.unused) (cond used (pos (holds h size i)) Meta2.unused))
+      (not (Meta2.valueRule used (holds h size i) value))
+
+  unfoldable pub valueTests : List Test
+  valueTests = joinBelow maxchunks (λ k. listBelow (h .n) (valueTest k))
+
+  -- those of the counts, each and the greatest, and of all
+  unfoldable pub countsTests : List Test
+  countsTests = countTests ++ (greatestTest ∷ [])
+
+  unfoldable pub meta2Tests : List Test
+  meta2Tests = countsTests ++ valueTests

@@ -1,5 +1,6 @@
 pub mod Limits
 pub mod Layout
+pub mod Kinds
 pub mod Refusals
 pub mod Meta2
 pub mod Record
@@ -23,3 +24,4 @@ pub mod Orders
 pub mod Bytes
 pub mod Lines
 pub mod Idle
+pub mod Places

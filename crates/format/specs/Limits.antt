@@ -66,13 +66,21 @@ plannedRule k = within 1 maxBlocks k
 unfoldable pub maxchunksRule : ℤ → Bool
 maxchunksRule m = within 0 maxBlocks m
 
+-- a number is none of those before it
+unfoldable pub isNew : (ℕ → ℤ) → ℕ → Bool
+isNew rank i = allBelow i (λ j. not (sameZ (rank j) (rank i)))
+
 -- no two of n numbers are the same
 unfoldable pub allDifferent : ℕ → (ℕ → ℤ) → Bool
-allDifferent n rank = allBelow n (λ i. allBelow i (λ j. not (sameZ (rank j) (rank i))))
+allDifferent n rank = allBelow n (isNew rank)
 
 -- "Ranks from 0 to 2,147,483,647, all different, in any order"
 unfoldable pub ranksRule : ℕ → (ℕ → ℤ) → Bool
 ranksRule n rank = allBelow n (λ i. within 0 maxRank (rank i)) && allDifferent n rank
+
+-- the rule of one rank among others: in its range, and none of those before it
+unfoldable pub rankRule : (ℕ → ℤ) → ℕ → Bool
+rankRule rank i = within 0 maxRank (rank i) && isNew rank i
 
 -- what the layout's functions ask of the numbers that they are handed: none over its limit, and a size for each task
 pub record Sound (b n : ℕ) (sizes : List ℕ) : Type 0 where

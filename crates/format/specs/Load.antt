@@ -3,13 +3,15 @@ use mathlib.Core.Bool.{cond}
 use mathlib.Core.List.{List, _∷_, _++_}
 use Prim.Native.Nat.{ℕ, _*_}
 use lib.Dec.{ltb, eqb}
-use lib.IntN.{ℤ}
+use lib.IntN.{ℤ, pos}
 use lib.ListN.{length}
 use Rattle.lists.specs.Splice.{splice}
-use Rattle.format.specs.Refusals.{test, firstFailing}
+use Rattle.format.specs.Refusals.{Test, testAt, noFault, firstFailing, firstFault}
+use Rattle.format.specs.declared.fault.Fault.{Fault}
+use Rattle.format.specs.Kinds
 use Rattle.format.specs.Meta2.{meta2Part}
 use Rattle.format.specs.Record.{listsOf, noLists}
-use Rattle.format.specs.Judge.{tasksIn, maxchunksIn, headIn, rankIn, sizeIn, meta2In, meta1Tests, countIn, valuesIn, meta2Tests}
+use Rattle.format.specs.Judge.{numberFault, tasksIn, maxchunksIn, headIn, rankIn, sizeIn, meta2In, meta1Tests, countIn, valuesIn, meta2Tests}
 use Rattle.format.specs.declared.loaded.LoadAnswer.{LoadAnswer}
 use Rattle.format.specs.declared.loaded.Loaded.{Loaded}
 use Rattle.format.specs.Loaded.{loadedOf, noLoaded}
@@ -18,12 +20,20 @@ module _ (image : List ℕ) where
   unfoldable pub meta2Bytes : List ℕ
   meta2Bytes = meta2Part image (meta2In image) (tasksIn image) (maxchunksIn image)
 
-  -- "1, 2, 3 (1076), 4, 5, 6, 7, 3 (full), 8, 9, 10, 11, 12, 18 (table), 13", with a table of so many cells
+  -- "1, 2, 3 (1076), 4, 5, 6, 7, 3 (full), 8, 9, 10, 11, 12, 18 (table), 13", with a table of so many cells; "for 18, 0"
+  unfoldable pub loadTests : ℕ → List Test
+  loadTests cells =
+      let needed = tasksIn image * maxchunksIn image in
+      meta1Tests image (length image)
+      ++ (testAt 18 (numberFault Kinds.table 0 (pos cells) needed needed) (ltb cells needed)
+      ∷ meta2Tests (headIn image) (sizeIn image) (maxchunksIn image) (meta2In image) meta2Bytes)
+
+  -- the number, and the field that is broken
   unfoldable pub loadRefusal : ℕ → ℕ
-  loadRefusal cells =
-      firstFailing
-      (meta1Tests image (length image)
-      ++ (test 18 (ltb cells (tasksIn image * maxchunksIn image)) ∷ meta2Tests (headIn image) (sizeIn image) (maxchunksIn image) meta2Bytes))
+  loadRefusal cells = firstFailing (loadTests cells)
+
+  unfoldable pub loadFault : ℕ → Fault
+  loadFault cells = firstFault (loadTests cells)
 
   unfoldable pub loadedIn : Loaded
   loadedIn = loadedOf (headIn image) (maxchunksIn image) 0
@@ -34,8 +44,8 @@ module _ (image : List ℕ) where
   -- "A refused opening or load hands back a record of zeros marked closed"
   unfoldable pub checkAnswer : ℕ → LoadAnswer
   checkAnswer cells =
-      cond (eqb (loadRefusal cells) 0) (record { loaded = loadedIn; lists = listsIn; refusal = 0 })
-      (record { loaded = noLoaded; lists = noLists; refusal = loadRefusal cells })
+      cond (eqb (loadRefusal cells) 0) (record { loaded = loadedIn; lists = listsIn; refusal = 0; fault = noFault })
+      (record { loaded = noLoaded; lists = noLists; refusal = loadRefusal cells; fault = loadFault cells })
 
   unfoldable pub loadAnswer : List ℤ → LoadAnswer
   loadAnswer table = checkAnswer (length table)

@@ -34,48 +34,83 @@ prefixLength = 1024
 abbrev pub fixedLength : ℕ
 fixedLength = 1076
 
--- where the last two fields, maxchunks and start_of_varheader, stand
+-- ---- the table of fields: where each stands, of n tasks, and i counts them from 0
+
+abbrev pub orderAt : ℕ
+orderAt = 4
+
+abbrev pub versionAt : ℕ
+versionAt = 8
+
+abbrev pub patchAt : ℕ
+patchAt = 12
+
+abbrev pub formatAt : ℕ
+formatAt = 16
+
+abbrev pub blocksizeAt : ℕ
+blocksizeAt = 20
+
+abbrev pub tasksAt : ℕ
+tasksAt = 24
+
+abbrev pub filesAt : ℕ
+filesAt = 28
+
+abbrev pub fileNumberAt : ℕ
+fileNumberAt = 32
+
+abbrev pub rankAt : ℕ → ℕ
+rankAt i = fixedLength + 8 * i
+
+abbrev pub sizeAt : ℕ → ℕ → ℕ
+sizeAt n i = fixedLength + 8 * n + 8 * i
+
+-- the last two fields: maxchunks, and start_of_varheader behind it
 abbrev pub lastAt : ℕ → ℕ
 lastAt n = fixedLength + 16 * n
 
--- ---- the table of fields, read from an image in a byte order; i counts tasks from 0
+abbrev pub startAt : ℕ → ℕ
+startAt n = lastAt n + 4
+
+-- ---- the same fields, read from an image in a byte order
 
 module _ (big : Bool) (image : List ℕ) where
   abbrev pub orderField : ℤ
-  orderField = signedAt big 4 image 4
+  orderField = signedAt big 4 image orderAt
 
   abbrev pub versionField : ℤ
-  versionField = signedAt big 4 image 8
+  versionField = signedAt big 4 image versionAt
 
   abbrev pub patchField : ℤ
-  patchField = signedAt big 4 image 12
+  patchField = signedAt big 4 image patchAt
 
   abbrev pub formatField : ℤ
-  formatField = signedAt big 4 image 16
+  formatField = signedAt big 4 image formatAt
 
   abbrev pub blocksizeField : ℤ
-  blocksizeField = signedAt big 4 image 20
+  blocksizeField = signedAt big 4 image blocksizeAt
 
   abbrev pub tasksField : ℤ
-  tasksField = signedAt big 4 image 24
+  tasksField = signedAt big 4 image tasksAt
 
   abbrev pub filesField : ℤ
-  filesField = signedAt big 4 image 28
+  filesField = signedAt big 4 image filesAt
 
   abbrev pub fileNumberField : ℤ
-  fileNumberField = signedAt big 4 image 32
+  fileNumberField = signedAt big 4 image fileNumberAt
 
   abbrev pub rankField : ℕ → ℤ
-  rankField i = signedAt big 8 image (fixedLength + 8 * i)
+  rankField i = signedAt big 8 image (rankAt i)
 
   abbrev pub sizeField : ℕ → ℕ → ℤ
-  sizeField n i = signedAt big 8 image (fixedLength + 8 * n + 8 * i)
+  sizeField n i = signedAt big 8 image (sizeAt n i)
 
   abbrev pub maxchunksField : ℕ → ℤ
   maxchunksField n = signedAt big 4 image (lastAt n)
 
   abbrev pub startField : ℕ → ℤ
-  startField n = signedAt big 8 image (lastAt n + 4)
+  startField n = signedAt big 8 image (startAt n)
 
 -- ---- META1 as bytes, of a record
 

@@ -218,7 +218,7 @@ headWith b = headOf 0 (pos 1) (pos 7) 3 b 1
 
 abbrev pub filledBy : ℕ → ℕ → ℕ → List ℕ
 filledBy b size bytes =
-    firstFailing (meta2Tests (headWith b) (λ i. size) 1 (meta2 false 1 1 (λ i. 1) (λ j. pos bytes)))
+    firstFailing (meta2Tests (headWith b) (λ i. size) 1 0 (meta2 false 1 1 (λ i. 1) (λ j. pos bytes)))
     ∷ cond (cellsAgree (headWith b) (listsOf 1 (λ i. 0) (λ i. size) (λ i. 1)) 1 (pos bytes ∷ [])) 0 19
     ∷ answers (termsOf (plan 0 b (size ∷ []) 1)) initial (record { task = 1; L = bytes } ∷ [])
 

@@ -23,12 +23,12 @@ use Rattle.format.specs.Numbers.{Row, row}
 -- ---- loading: a container of one task that wrote 10 bytes in one chunk, with faults in its bytes, cut short, and with a table of so many cells
 
 -- a byte that is put at an offset
-pub record Fault : Type 0 where
+pub record Change : Type 0 where
   pub at : ℕ
   pub byte : ℕ
 
-abbrev pub fault : ℕ → ℕ → Fault
-fault at byte = record { at = at; byte = byte }
+abbrev pub change : ℕ → ℕ → Change
+change at byte = record { at = at; byte = byte }
 
 abbrev pub one : List ℕ
 one =
@@ -36,24 +36,24 @@ one =
     ++ (replicate 944 0 ++ meta2 false 1 1 (λ i. 1) (λ j. pos 10))
 
 -- one byte for each test but 3 and 18: 1, 2, 4, 5, 6, 7, 8, 9, 10, 11, 12, 13
-abbrev pub faults : List Fault
+abbrev pub faults : List Change
 faults =
-    fault 3 111
-    ∷ fault 4 0
-    ∷ fault 16 5
-    ∷ fault 21 3
-    ∷ fault 24 65
-    ∷ fault 28 2
-    ∷ fault 1083 128
-    ∷ fault 1084 0
-    ∷ fault 1097 0
-    ∷ fault 1092 33
-    ∷ fault 1097 7
-    ∷ fault 2048 2
+    change 3 111
+    ∷ change 4 0
+    ∷ change 16 5
+    ∷ change 21 3
+    ∷ change 24 65
+    ∷ change 28 2
+    ∷ change 1083 128
+    ∷ change 1084 0
+    ∷ change 1097 0
+    ∷ change 1092 33
+    ∷ change 1097 7
+    ∷ change 2048 2
     ∷ []
 
 -- an image with these faults; of two for one byte the first counts
-abbrev pub spoilt : List Fault → List ℕ → List ℕ
+abbrev pub spoilt : List Change → List ℕ → List ℕ
 spoilt [] image = image
 spoilt (f ∷ fs) image = splice (spoilt fs image) (f .at) (f .byte ∷ [])
 

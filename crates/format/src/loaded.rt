@@ -1,4 +1,5 @@
 // The record of a loaded container, which is never mixed with a session's, and what loading and the reads answer.
+use crate::fault::Fault;
 use crate::head::Head;
 use crate::head::LISTS;
 
@@ -10,12 +11,13 @@ pub struct Loaded {
     pub closed: u32,
 }
 
-// What loading answers. In every answer `refusal` is 0 or a number of the module `refusal`.
+// What loading answers. In every answer `refusal` is 0 or a number of the module `refusal`; `fault` says what is broken where it is not 0.
 #[repr(C)]
 pub struct LoadAnswer {
     pub loaded: Loaded,
     pub lists: [u64; LISTS],
     pub refusal: u32,
+    pub fault: Fault,
 }
 
 // Where the written bytes of one chunk, or the filename prefix, lie in the image.

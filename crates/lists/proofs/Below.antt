@@ -9,11 +9,11 @@ use native.Mathlib.Nat.{le-of-eq, le-add-right, add-zero, add-suc, add-mul, le-m
 use native.Mathlib.Numerals.{add-one}
 use native.Mathlib.Omega.{arith}
 use lib.Arith.{le-zero}
-use lib.Dec.{leb}
+use lib.Dec.{leb, eqb}
 use lib.ListN.{length, take, drop, getD, replicate, length-append, length-drop, length-replicate, getD-replicate, List·getD-append}
 use lib.Seq.{ext-getD, take-all, take-suc, take-append-le, drop-at, drop-append-le, getD-at, getD-drop}
-use borrow.Author.Tests.{leb-true, leb-false, not-true, not-false}
-use Rattle.lists.specs.Below.{allBelow, anyBelow, sumBelow, greatestBelow, joinBelow, listBelow}
+use borrow.Author.Tests.{leb-true, leb-false, eq-eqb, ne-eqb, not-true, not-false}
+use Rattle.lists.specs.Below.{allBelow, anyBelow, firstNot, sumBelow, greatestBelow, joinBelow, listBelow}
 
 -- what a test t says that a call answered with r, where the code asked for its opposite
 pub test-fails : {r t : Bool} → r ≡ t → not r ≡ true → t ≡ false
@@ -297,3 +297,93 @@ pub greatest-cong : (f g : ℕ → ℕ) (n : ℕ) → ((i : ℕ) → i < n → f
 unfolding greatestBelow
 greatest-cong f g zero h = refl
 greatest-cong f g (suc n) h = ap₂ max (greatest-cong f g n (λ i l. h i (omega arith))) (h n (omega arith))
+
+-- ---- the first index of which a test does not hold
+
+-- two tests of each are one
+pub all-both : (p q : ℕ → Bool) (n : ℕ) → allBelow n (λ i. p i && q i) ≡ (allBelow n p && allBelow n q)
+unfolding allBelow
+all-both p q zero = refl
+all-both p q (suc n) = rw (all-both p q n) (swap (allBelow n p) (allBelow n q) (p n) (q n))
+  where
+    swap : (a b c d : Bool) → ((a && b) && (c && d)) ≡ ((a && c) && (b && d))
+    swap true true c d = refl
+    swap true false c d = sym (and-false c)
+    swap false b c d = refl
+
+module _ (p : ℕ → Bool) where
+  -- where the test holds of all, and where i is the first that it fails of
+  pub first-none : (n : ℕ) → allBelow n p ≡ true → firstNot n p ≡ n
+  unfolding firstNot
+  first-none zero all = refl
+  first-none (suc n) all = rw all
+
+  pub first-at : (i n : ℕ) → i < n → allBelow i p ≡ true → p i ≡ false → firstNot n p ≡ i
+  unfolding firstNot
+  first-at i zero l all here = absurd (not-suc-le-zero l)
+  first-at i (suc n) l all here =
+      let fails : allBelow (suc n) p ≡ false = sym (all-fails p i l here) in
+      rw fails
+      (⊎-elim
+      (λ e. ap (λ (k : ℕ). firstNot k p) (sym e) ∙ first-none i all)
+      (λ lt. first-at i n lt all here)
+      (eq-or-lt-of-le (le-of-suc-le-suc l)))
+
+  -- what is known of it where the test fails of one
+  pub first-fails : (n : ℕ) → allBelow n p ≡ false → (firstNot n p < n) × (p (firstNot n p) ≡ false) × (allBelow (firstNot n p) p ≡ true)
+  unfolding allBelow firstNot
+  first-fails zero e = absurd (false≢true (sym e))
+  first-fails (suc n) e = rw e (go (allBelow n p) refl (first-fails n))
+    where
+      go : (b : Bool) → allBelow n p ≡ b
+          → (allBelow n p ≡ false → (firstNot n p < n) × (p (firstNot n p) ≡ false) × (allBelow (firstNot n p) p ≡ true))
+          → (firstNot n p < suc n) × (p (firstNot n p) ≡ false) × (allBelow (firstNot n p) p ≡ true)
+      go true a rest = rw (first-none n a) (omega arith, rw a at e, a)
+      go false a rest = let r = rest a in (omega arith, r .1, r .2)
+
+  -- whether it is below n says whether the test fails of one
+  pub first-below : {i n : ℕ} → i ≡ firstNot n p → i < n → allBelow n p ≡ false
+  first-below {i} {n} e l = go (allBelow n p) refl
+    where
+      go : (b : Bool) → allBelow n p ≡ b → b ≡ false
+      go true a = absurd (omega (arith, first-none n a))
+      go false a = refl
+
+  pub first-past : {i n : ℕ} → i ≡ firstNot n p → n ≤ i → allBelow n p ≡ true
+  first-past {i} {n} e l = go (allBelow n p) refl
+    where
+      go : (b : Bool) → allBelow n p ≡ b → b ≡ true
+      go true a = refl
+      go false a = absurd (omega (arith, first-fails n a .0))
+
+  pub first-le : (n : ℕ) → firstNot n p ≤ n
+  first-le n = go (allBelow n p) refl
+    where
+      go : (b : Bool) → allBelow n p ≡ b → firstNot n p ≤ n
+      go true a = le-of-eq (first-none n a)
+      go false a = omega (arith, first-fails n a .0)
+
+  -- whether it is n
+  pub all-first : (n : ℕ) → eqb (firstNot n p) n ≡ allBelow n p
+  all-first n = go (allBelow n p) refl
+    where
+      go : (b : Bool) → allBelow n p ≡ b → eqb (firstNot n p) n ≡ allBelow n p
+      go true a = rw a (eq-eqb (firstNot n p) n (first-none n a))
+      go false a = rw a (ne-eqb (firstNot n p) n (λ e. omega (arith, first-fails n a .0)))
+
+pub first-cong : (p q : ℕ → Bool) (n : ℕ) → ((i : ℕ) → i < n → p i ≡ q i) → firstNot n p ≡ firstNot n q
+unfolding firstNot
+first-cong p q zero h = refl
+first-cong p q (suc n) h = rw (all-cong p q (suc n) h, first-cong p q n (λ i l. h i (omega arith)))
+
+-- two searches, the second up to where the first ended, are one
+pub first-both : (p q : ℕ → Bool) (n : ℕ) → firstNot (firstNot n p) q ≡ firstNot n (λ i. p i && q i)
+unfolding firstNot
+first-both p q zero = refl
+first-both p q (suc n) = go (allBelow (suc n) p) refl (first-both p q n)
+  where
+    go : (b : Bool) → allBelow (suc n) p ≡ b → firstNot (firstNot n p) q ≡ firstNot n (λ i. p i && q i)
+        → firstNot (firstNot (suc n) p) q ≡ firstNot (suc n) (λ i. p i && q i)
+    go true a rest =
+        rw (first-none p (suc n) a) (first-cong q (λ i. p i && q i) (suc n) (λ i l. rw (all-at p (suc n) i l a)))
+    go false a rest = let none = all-both p q (suc n) in rw (a, none, a) rest

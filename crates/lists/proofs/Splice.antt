@@ -33,6 +33,14 @@ module _ {ℓ} {A : Type ℓ} where
       ∙ ap (drop b) (take-append-le (b + n) (take len xs) tail (omega arith) ∙ take-take (b + n) len xs h)
       ∙ sym (take-drop b n xs)
 
+  -- a part of a part
+  pub part-part : (at len b n : ℕ) (xs : List A) → b + n ≤ len → take n (drop b (take len (drop at xs))) ≡ take n (drop (at + b) xs)
+  part-part at len b n xs h =
+      take-drop b n (take len (drop at xs))
+      ∙ ap (drop b) (take-take (b + n) len (drop at xs) h)
+      ∙ sym (take-drop b n (drop at xs))
+      ∙ ap (take n) (drop-drop b at xs)
+
   -- the n elements from `at` on, after a splice at their start, put back: one splice of the whole
   pub splice-part : (xs : List A) (at n : ℕ) (vs part : List A) → length vs ≤ n → at + n ≤ length xs
       → part ≡ splice (take n (drop at xs)) 0 vs → take at xs ++ (part ++ drop n (drop at xs)) ≡ splice xs at vs

@@ -1,5 +1,6 @@
--- What is said of every index below a number: a test of each or of one, a sum, the greatest, and lists put one after the other.
-use mathlib.Core.Bool.{Bool, true, false, _&&_, _||_}
+-- What is said of every index below a number: a test of each or of one, the first that a test does not hold of, a sum, the greatest, and lists
+-- put one after the other.
+use mathlib.Core.Bool.{Bool, true, false, _&&_, _||_, cond}
 use mathlib.Core.List.{List, [], _∷_, _++_}
 use Prim.Native.Nat.{ℕ, zero, suc, _+_, max}
 
@@ -12,6 +13,11 @@ allBelow (suc n) p = allBelow n p && p n
 unfoldable pub anyBelow : ℕ → (ℕ → Bool) → Bool
 anyBelow zero p = false
 anyBelow (suc n) p = anyBelow n p || p n
+
+-- the first of 0, 1, .. up to n - 1 of which the test does not hold, and n where it holds of all
+unfoldable pub firstNot : ℕ → (ℕ → Bool) → ℕ
+firstNot zero p = 0
+firstNot (suc n) p = cond (allBelow (suc n) p) (suc n) (firstNot n p)
 
 -- f 0 + f 1 + .. + f (n - 1)
 unfoldable pub sumBelow : ℕ → (ℕ → ℕ) → ℕ

@@ -1,42 +1,48 @@
 -- What a load answers, from what the code finds as it goes through its tests.
 use mathlib.Core.Path.{_≡_, refl, ap, ap₂, sym, _∙_}
-use mathlib.Core.Bool.{Bool, not, _&&_}
+use mathlib.Core.Bool.{cond, not}
 use mathlib.Core.List.{List, [], _∷_, _++_}
 use mathlib.Core.Logic.{⊎-elim}
-use Prim.Native.Nat.{ℕ, _+_, _-_, _*_, _<_, _≤_}
+use Prim.Native.Nat.{ℕ, suc, _+_, _-_, _*_, _^_, _<_, _≤_}
 use native.Mathlib.Nat.{eq-zero-or-pos}
 use native.Mathlib.Omega.{arith}
 use borrow.Author.Tests.{lt-ltb, le-ltb}
-use lib.IntN.{ℤ}
+use lib.Dec.{ltb}
+use lib.IntN.{ℤ, pos}
 use lib.ListN.{length, take, drop, length-drop}
 use lib.Seq.{length-take-le}
 use Rattle.endian.specs.Number.{numberAt}
 use Rattle.endian.specs.Signed.{signBit}
 use Rattle.lists.specs.Splice.{splice}
-use Rattle.lists.proofs.Below.{and-left}
+use Rattle.lists.proofs.Below.{and-left, join-cong}
 use Rattle.endian.proofs.Signed.{within-holds}
 use Rattle.format.specs.Limits.{maxTasks, maxSize, maxBlocks, Sound}
 use Rattle.format.specs.Layout.{meta2Length, meta2End}
 use Rattle.format.specs.declared.head.Head.{Head}
-use Rattle.meta1.specs.declared.Fixed.{Fixed}
+use Rattle.front.specs.declared.Fixed.{Fixed}
 use Rattle.meta1.specs.declared.Last.{Last}
-use Rattle.format.specs.Refusals.{test, firstFailing}
-use Rattle.format.specs.Meta2.{meta2Part, countField, valueField, leastCount, countsRule}
-use Rattle.format.specs.Record.{sizesOf, sizeOf, listsOf, filled, noLists, isBig, holds, meta2At, endAt, withCounts}
-use Rattle.format.specs.Judge.{tasksIn, maxchunksIn, headIn, rankIn, sizeIn, meta2In, fixedTests, restTests, meta1Tests, listTests, lastTests, countIn, valuesIn, meta2Tests}
-use Rattle.meta1.specs.Judging.{fixedGives, restGives, listsRead, HeadRead}
+use Rattle.format.specs.declared.fault.Verdict.{Verdict}
+use Rattle.format.specs.Kinds
+use Rattle.format.specs.Refusals.{Test, testAt, faultOf, noFault, firstFailing, verdict}
+use Rattle.format.specs.Meta2.{meta2Part, valueField, valueIndex, unused, valueRule, leastCount, countsRule}
+use Rattle.format.specs.Record.{sizesOf, sizeOf, listsOf, filled, noLists, isBig, meta2At, endAt, withCounts}
+use Rattle.format.specs.Judge.{numberFault, tasksIn, maxchunksIn, headIn, rankIn, sizeIn, meta2In, fixedTests, rankTests, requestedTests, restTests, meta1Tests, countIn, valuesIn, countTests, greatestTest, valueTest, valueTests, countsTests, meta2Tests}
+use Rattle.front.specs.Judging.{fixedGives, HeadRead}
+use Rattle.meta1.specs.Judging.{restGives, listsRead}
 use Rattle.meta2.specs.Judging.{Meta2There}
-use Rattle.format.proofs.Refusals.{first-passes, first-fails, both-pass, when-accepted, when-refused, number-is}
-use Rattle.format.proofs.Rules.{sizes-hold, values-agree}
+use Rattle.format.proofs.Refusals.{both-pass, when-accepted, when-refused, number-is}
+use Rattle.format.proofs.Verdicts.{fails-first, passes-first, verdict-passes, verdict-fails, verdict-none}
+use Rattle.format.proofs.Rules.{sizes-hold}
 use Rattle.format.proofs.Unsigned.{all-unsigned, natural-unsigned}
 use Rattle.format.proofs.Filled.{filled-cong}
 use Rattle.format.proofs.Record.{holds-agree, meta2At-agree, endAt-agree}
 use Rattle.format.proofs.Stripes.{length-lists, length-sizes, size-made, counts-put}
-use Rattle.format.proofs.Accepting.{Meta1Holds, meta1-numbered, meta1-holds, block-in, tasks-in, size-in, maxchunks-in, meta2-holds}
-use Rattle.meta1.proofs.Answers.{fixed-numbered, fixed-number, fixed-head, lists-are, rest-number, rest-is}
+use Rattle.format.proofs.Accepting.{Meta1Holds, fixed-numbered, rank-numbered, size-numbered, meta1-numbered, meta1-holds, meta2-numbered, block-in, tasks-in, size-in, maxchunks-in, meta2-holds}
+use Rattle.front.proofs.Answers.{fixed-verdict, fixed-head}
+use Rattle.meta1.proofs.Answers.{lists-are, rest-verdict, rest-is}
 use Rattle.format.specs.declared.loaded.LoadAnswer.{LoadAnswer}
 use Rattle.format.specs.Loaded.{loadedOf, noLoaded}
-use Rattle.format.specs.Load.{meta2Bytes, loadedIn, listsIn, loadRefusal, checkAnswer, loadTable}
+use Rattle.format.specs.Load.{meta2Bytes, loadedIn, listsIn, loadTests, loadRefusal, loadFault, checkAnswer, loadTable}
 use Rattle.format.specs.Passed.{Meta2Fits}
 use Rattle.format.proofs.LoadTests.{load-holds}
 
@@ -46,12 +52,12 @@ some-number some = ⊎-elim (λ none. absurd (some none)) (λ l. l) (eq-zero-or-
 -- ---- what META1's two parts give
 
 module _ (image : List ℕ) {one : Fixed} (gives : one ≡ fixedGives image (length image)) where
-  fixed-found : firstFailing (fixedTests image (length image)) ≡ one .refusal
-  fixed-found = sym (fixed-number image (length image)) ∙ ap (λ (f : Fixed). f .refusal) (sym gives)
+  fixed-found : verdict (fixedTests image (length image)) ≡ one .verdict
+  fixed-found = sym (fixed-verdict image (length image)) ∙ ap (λ (f : Fixed). f .verdict) (sym gives)
 
-  pub head-read : one .refusal ≡ 0 → HeadRead image (length image) (one .head)
+  pub head-read : one .verdict .refusal ≡ 0 → HeadRead image (length image) (one .head)
   head-read none =
-      let zero : firstFailing (fixedTests image (length image)) ≡ 0 = fixed-found ∙ none in
+      let zero : firstFailing (fixedTests image (length image)) ≡ 0 = (λ i. fixed-found i .refusal) ∙ none in
       record {
         covers = λ k l m. l;
         fixed = zero;
@@ -59,35 +65,44 @@ module _ (image : List ℕ) {one : Fixed} (gives : one ≡ fixedGives image (len
       }
 
 module _ {image : List ℕ} {h : Head} (p : HeadRead image (length image) h) {last : Last} (gives : last ≡ restGives image (length image)) where
-  rest-found : firstFailing (restTests image (length image)) ≡ last .refusal
-  rest-found = sym (rest-number image (length image)) ∙ ap (λ (l : Last). l .refusal) (sym gives)
+  rest-found : verdict (restTests image (length image)) ≡ last .verdict
+  rest-found = sym (rest-verdict image (length image)) ∙ ap (λ (l : Last). l .verdict) (sym gives)
 
-  meta1-found : firstFailing (meta1Tests image (length image)) ≡ last .refusal
+  meta1-found : verdict (meta1Tests image (length image)) ≡ last .verdict
   unfolding meta1Tests
-  meta1-found = first-passes (fixedTests image (length image)) _ (fixed-numbered image (length image)) (p .fixed) ∙ rest-found
+  meta1-found = verdict-passes (fixedTests image (length image)) _ (fixed-numbered image (length image)) (p .fixed) ∙ rest-found
 
 -- ---- refused, the number is handed back with a record of zeros
 
-module _ (image : List ℕ) (cells : ℕ) where
-  refused-answer : {r : ℕ} → (r ≡ 0 → ⊥) → loadRefusal image cells ≡ r
-      → record { loaded = noLoaded; lists = noLists; refusal = r } ≡ checkAnswer image cells
-  unfolding checkAnswer
-  refused-answer some e = sym (when-refused (loadRefusal image cells) _ _ (rw e (some-number some)) ∙ rw e)
+-- what is answered by a verdict that does not pass
+abbrev pub refusedBy : Verdict → LoadAnswer
+refusedBy v = record { loaded = noLoaded; lists = noLists; refusal = v .refusal; fault = v .fault }
 
-  at-meta1 : {r : ℕ} → (r ≡ 0 → ⊥) → firstFailing (meta1Tests image (length image)) ≡ r → loadRefusal image cells ≡ r
-  unfolding loadRefusal
-  at-meta1 some e = first-fails (meta1Tests image (length image)) _ (rw e (some-number some)) ∙ e
+module _ (image : List ℕ) (cells : ℕ) where
+  refused-answer : {v : Verdict} → (v .refusal ≡ 0 → ⊥) → verdict (loadTests image cells) ≡ v → refusedBy v ≡ checkAnswer image cells
+  unfolding checkAnswer loadRefusal loadFault
+  refused-answer {v} some e =
+      let number : v .refusal ≡ firstFailing (loadTests image cells) = λ i. sym e i .refusal in
+      let refused : 0 < firstFailing (loadTests image cells) = omega (arith, some-number some) in
+      sym (when-refused (firstFailing (loadTests image cells)) _ _ refused ∙ (λ i. refusedBy (e i)))
+
+  at-meta1 : {v : Verdict} → (v .refusal ≡ 0 → ⊥) → verdict (meta1Tests image (length image)) ≡ v → verdict (loadTests image cells) ≡ v
+  unfolding loadTests
+  at-meta1 {v} some e =
+      let number : v .refusal ≡ firstFailing (meta1Tests image (length image)) = λ i. sym e i .refusal in
+      verdict-fails (meta1Tests image (length image)) _ (omega (arith, some-number some)) ∙ e
 
   -- by the fixed fields of META1, and by the rest of it
-  pub refused-fixed : {one : Fixed} → one ≡ fixedGives image (length image) → (one .refusal ≡ 0 → ⊥)
-      → record { loaded = noLoaded; lists = noLists; refusal = one .refusal } ≡ checkAnswer image cells
+  pub refused-fixed : {one : Fixed} → one ≡ fixedGives image (length image) → (one .verdict .refusal ≡ 0 → ⊥)
+      → refusedBy (one .verdict) ≡ checkAnswer image cells
   unfolding meta1Tests
-  refused-fixed gives some =
+  refused-fixed {one} gives some =
       let e = fixed-found image gives in
-      refused-answer some (at-meta1 some (first-fails (fixedTests image (length image)) _ (rw e (some-number some)) ∙ e))
+      let number : one .verdict .refusal ≡ firstFailing (fixedTests image (length image)) = λ i. sym e i .refusal in
+      refused-answer some (at-meta1 some (verdict-fails (fixedTests image (length image)) _ (omega (arith, some-number some)) ∙ e))
 
   pub refused-rest : {h : Head} → HeadRead image (length image) h → {last : Last} → last ≡ restGives image (length image)
-      → (last .refusal ≡ 0 → ⊥) → record { loaded = noLoaded; lists = noLists; refusal = last .refusal } ≡ checkAnswer image cells
+      → (last .verdict .refusal ≡ 0 → ⊥) → refusedBy (last .verdict) ≡ checkAnswer image cells
   refused-rest p gives some = refused-answer some (at-meta1 some (meta1-found p gives))
 
 -- ---- META1 accepted: what META2 is judged by, and where it stands
@@ -127,22 +142,33 @@ module _ (image : List ℕ) (zero : firstFailing (meta1Tests image (length image
         }
 
 -- test 13 looks at what chunks of the head's tasks hold
-meta2-agree : (h : Head) (size size′ : ℕ → ℕ) (m : ℕ) (part : List ℕ) → ((i : ℕ) → i < h .n → size i ≡ size′ i)
-    → firstFailing (meta2Tests h size m part) ≡ firstFailing (meta2Tests h size′ m part)
-unfolding meta2Tests
-meta2-agree h size size′ m part same =
+meta2-agree : (h : Head) (size size′ : ℕ → ℕ) (m at : ℕ) (part : List ℕ) → ((i : ℕ) → i < h .n → size i ≡ size′ i)
+    → meta2Tests h size m at part ≡ meta2Tests h size′ m at part
+unfolding meta2Tests countsTests countTests greatestTest valueTests valueTest
+meta2-agree h size size′ m at part same =
     let count = countIn h part in
-    let value = valueField (isBig h) part (h .n) in
-    ap (λ (b : Bool). firstFailing (test 13 (not (countsRule (h .format) (h .n) m (countField (isBig h) part) && b)) ∷ []))
-    (values-agree (h .n) m (holds h size) (holds h size′) count count value value (holds-agree h size size′ same) (λ i l. refl) (λ j l. refl))
+    let value : ℕ → ℕ → ℤ = λ k i. valueField (isBig h) part (h .n) (valueIndex (h .n) k i) in
+    ap (λ (values : List Test). countsTests h size m at part ++ values)
+    (join-cong _ _ m
+    (λ k _.
+    join-cong _ _ (h .n)
+    (λ i l.
+    ap
+    (λ (held : ℕ).
+    testAt 13
+    (faultOf Kinds.value (suc i) (suc k) (at + 8 * h .n + 8 * valueIndex (h .n) k i) (value k i) (cond (ltb k (count i)) (pos 0) unused)
+    (cond (ltb k (count i)) (pos held) unused))
+    (not (valueRule (ltb k (count i)) held (value k i)))
+    ∷ [])
+    (holds-agree h size size′ same i l))))
 
 -- the counts that are read without a sign, where test 13 passes
-counts-are : (h : Head) (size : ℕ → ℕ) (m : ℕ) (part : List ℕ) → m ≤ maxBlocks → firstFailing (meta2Tests h size m part) ≡ 0
+counts-are : (h : Head) (size : ℕ → ℕ) (m at : ℕ) (part : List ℕ) → m ≤ maxBlocks → firstFailing (meta2Tests h size m at part) ≡ 0
     → filled (h .n) (λ i. numberAt (isBig h) 8 part (8 * i)) ≡ filled (h .n) (countIn h part)
 unfolding countIn countsRule
-counts-are h size m part small zero =
+counts-are h size m at part small zero =
     let f : ℕ → ℕ = λ i. numberAt (isBig h) 8 part (8 * i) in
-    let range = and-left _ _ (meta2-holds h size m part zero .counts) in
+    let range = and-left _ _ (meta2-holds h size m part at zero .counts) in
     filled-cong (h .n) f (countIn h part)
     (natural-unsigned (signBit 8) (h .n) f f (λ i l. refl) (leastCount (h .format)) m (omega arith)
     (all-unsigned (signBit 8) (h .n) f f (λ i l. refl) (leastCount (h .format)) m (omega arith) ∙ range))
@@ -151,20 +177,25 @@ counts-are h size m part small zero =
 pub record Found (image : List ℕ) (h : Head) (last : Last) (lists : List ℕ) : Type 0 where
   pub zero : firstFailing (meta1Tests image (length image)) ≡ 0
   pub head-is : h ≡ headIn image
-  pub last-is : last ≡ record { refusal = 0; maxchunks = maxchunksIn image; start = meta2In image }
+  pub last-is : last ≡ record { verdict = last .verdict; maxchunks = maxchunksIn image; start = meta2In image }
   pub lists-is : lists ≡ listsOf (tasksIn image) (rankIn image) (sizeIn image) (λ i. 0)
 
 pub found : {image : List ℕ} {h : Head} {last : Last} {lists : List ℕ} → HeadRead image (length image) h → last ≡ restGives image (length image)
-    → lists ≡ listsRead image h → last .refusal ≡ 0 → Found image h last lists
-unfolding restTests listTests
+    → lists ≡ listsRead image h → last .verdict .refusal ≡ 0 → Found image h last lists
+unfolding restTests
 found {image} {h} {last} {lists} p gives read none =
-    let rest : firstFailing (restTests image (length image)) ≡ 0 = rest-found p gives ∙ none in
-    let listed = both-pass (listTests image) (lastTests image (length image)) (omega arith) rest .0 in
+    let rest : firstFailing (restTests image (length image)) ≡ 0 = (λ i. rest-found p gives i .refusal) ∙ none in
+    let zero : firstFailing (meta1Tests image (length image)) ≡ 0 = (λ i. meta1-found p gives i .refusal) ∙ none in
+    let (ranks, later) = both-pass (rankTests image) _ (rank-numbered image (length image)) rest in
+    let sizes = both-pass (requestedTests image) _ (size-numbered image (length image)) later .0 in
     record {
-      zero = meta1-found p gives ∙ none;
+      zero = zero;
       head-is = p .head-is;
-      last-is = gives ∙ rest-is image (length image) rest;
-      lists-is = read ∙ lists-are p listed;
+      last-is =
+          gives
+          ∙ rest-is image (length image) rest
+          ∙ (λ i. record { verdict = rest-found p gives i; maxchunks = maxchunksIn image; start = meta2In image });
+      lists-is = read ∙ lists-are p ranks sizes;
     }
 
 module _ {image : List ℕ} {h : Head} {last : Last} {lists : List ℕ} (f : Found image h last lists) where
@@ -184,12 +215,14 @@ module _ {image : List ℕ} {h : Head} {last : Last} {lists : List ℕ} (f : Fou
   cells-are = ap₂ (λ (h : Head) (l : Last). h .n * l .maxchunks) (f .head-is) (f .last-is)
 
   pub refused-table : {cells : ℕ} → cells < h .n * last .maxchunks
-      → record { loaded = noLoaded; lists = noLists; refusal = 18 } ≡ checkAnswer image cells
-  unfolding loadRefusal firstFailing
+      → refusedBy (record { refusal = 18; fault = numberFault Kinds.table 0 (pos cells) (h .n * last .maxchunks) (h .n * last .maxchunks) })
+      ≡ checkAnswer image cells
+  unfolding loadTests
   refused-table {cells} l =
-      refused-answer image cells (λ z. omega arith)
-      (first-passes (meta1Tests image (length image)) _ (meta1-numbered image (length image)) (f .zero)
-      ∙ rw (lt-ltb cells (tasksIn image * maxchunksIn image) (rw (sym cells-are) l)))
+      (λ i. refusedBy (record { refusal = 18; fault = numberFault Kinds.table 0 (pos cells) (cells-are i) (cells-are i) }))
+      ∙ refused-answer image cells (λ z. omega arith)
+      (verdict-passes (meta1Tests image (length image)) _ (meta1-numbered image (length image)) (f .zero)
+      ∙ fails-first _ _ (lt-ltb cells (tasksIn image * maxchunksIn image) (rw (sym cells-are) l)))
 
   -- META2's part as the code takes it: from its start, L bytes, to its end
   module _ {L : ℕ} (long : L ≡ meta2Length (h .n) (last .maxchunks)) where
@@ -203,52 +236,71 @@ module _ {image : List ℕ} {h : Head} {last : Last} {lists : List ℕ} (f : Fou
         ap (λ (k : ℕ). take k (drop (last .start) image)) same
         ∙ ap₂ (λ (h : Head) (l : Last). take (meta2Length (h .n) (l .maxchunks)) (drop (l .start) image)) (f .head-is) (f .last-is)
 
-    pub there : Meta2There part h (last .maxchunks) lists
-    there = record {
+    part-long : length part ≡ last .start + L - last .start
+    part-long = length-take-le (last .start + L - last .start) (drop (last .start) image) (simp length-drop (omega (arith, fits)))
+
+    pub there : length image < 2 ^ 64 → Meta2There part (last .start) h (last .maxchunks) lists
+    there short = record {
       as-many = rw (f .lists-is) (length-lists (tasksIn image) (rankIn image) (sizeIn image) (λ i. 0));
       sound = sound;
       small = few;
       whole =
-          omega (arith, length-take-le (last .start + L - last .start) (drop (last .start) image) (simp length-drop (omega (arith, fits))));
+          omega (arith, part-long);
+      ends = omega (arith, part-long, fits);
     }
 
     -- what META2 gave, for a table that has room
-    module _ {cells : ℕ} (room : h .n * last .maxchunks ≤ cells) {r : ℕ}
-        (judged : r ≡ firstFailing (meta2Tests h (sizeOf lists) (last .maxchunks) part)) where
-      second : firstFailing (meta2Tests (headIn image) (sizeIn image) (maxchunksIn image) (meta2Bytes image)) ≡ r
+    module _ {cells : ℕ} (room : h .n * last .maxchunks ≤ cells) {v : Verdict}
+        (judged : v ≡ verdict (meta2Tests h (sizeOf lists) (last .maxchunks) (last .start) part)) where
+      second : verdict (meta2Tests (headIn image) (sizeIn image) (maxchunksIn image) (meta2In image) (meta2Bytes image)) ≡ v
       unfolding headIn
       second =
           sym
           (judged
           ∙ rw (part-is, f .head-is, f .last-is, f .lists-is)
-          (meta2-agree (headIn image) (sizeOf (listed image (f .zero) (λ i. 0))) (sizeIn image) (maxchunksIn image) (meta2Bytes image)
-          (size-is image (f .zero) (λ i. 0))))
+          (ap verdict
+          (meta2-agree (headIn image) (sizeOf (listed image (f .zero) (λ i. 0))) (sizeIn image) (maxchunksIn image) (meta2In image) (meta2Bytes image)
+          (size-is image (f .zero) (λ i. 0)))))
 
-      number : loadRefusal image cells ≡ r
-      unfolding loadRefusal firstFailing
-      number =
-          first-passes (meta1Tests image (length image)) _ (meta1-numbered image (length image)) (f .zero)
-          ∙ rw (le-ltb cells (tasksIn image * maxchunksIn image) (rw (sym cells-are) room)) second
+      found-verdict : verdict (loadTests image cells) ≡ v
+      unfolding loadTests
+      found-verdict =
+          verdict-passes (meta1Tests image (length image)) _ (meta1-numbered image (length image)) (f .zero)
+          ∙ passes-first _ _ (le-ltb cells (tasksIn image * maxchunksIn image) (rw (sym cells-are) room))
+          ∙ second
 
-      pub refused-meta2 : (r ≡ 0 → ⊥) → record { loaded = noLoaded; lists = noLists; refusal = r } ≡ checkAnswer image cells
-      refused-meta2 some = refused-answer image cells some number
+      pub refused-meta2 : (v .refusal ≡ 0 → ⊥) → refusedBy v ≡ checkAnswer image cells
+      refused-meta2 some = refused-answer image cells some found-verdict
 
-      -- accepted, the record is handed back
-      pub accepted : {counted : List ℕ} → r ≡ 0 → counted ≡ withCounts lists (h .n) (λ i. numberAt (isBig h) 8 part (8 * i))
-          → record { loaded = loadedOf h (last .maxchunks) 0; lists = counted; refusal = 0 } ≡ checkAnswer image cells
-      unfolding checkAnswer loadedIn listsIn listsOf headIn
-      accepted {counted} zero e =
-          let n = tasksIn image in
-          let ranks = filled n (rankIn image) in
-          let sizes = filled n (sizeIn image) in
-          let made : counted ≡ listsIn image =
-          e
-          ∙ rw (part-is, f .head-is, f .lists-is)
-          (counts-put n (rankIn image) (sizeIn image) (few-tasks image (f .zero)) (λ i. numberAt (isBig (headIn image)) 8 (meta2Bytes image) (8 * i))
-          ∙ ap (λ (xs : List ℕ). ranks ++ (sizes ++ xs))
-          (counts-are (headIn image) (sizeIn image) (maxchunksIn image) (meta2Bytes image) (few-chunks image (f .zero)) (second ∙ zero))) in
-          (λ i. record { loaded = loadedOf (f .head-is i) (f .last-is i .maxchunks) 0; lists = made i; refusal = 0 })
-          ∙ sym (when-accepted (loadRefusal image cells) _ _ (number ∙ zero))
+      -- accepted, the record is handed back, and no fault
+      module _ (zero : v .refusal ≡ 0) where
+        second-passes : firstFailing (meta2Tests (headIn image) (sizeIn image) (maxchunksIn image) (meta2In image) (meta2Bytes image)) ≡ 0
+        second-passes = (λ i. second i .refusal) ∙ zero
+
+        no-fault : v .fault ≡ noFault
+        no-fault =
+            (λ i. sym second i .fault)
+            ∙ (λ i. verdict-none _ (meta2-numbered (headIn image) (sizeIn image) (maxchunksIn image) (meta2Bytes image) (meta2In image)) second-passes i .fault)
+
+        all-passed : loadRefusal image cells ≡ 0
+        unfolding loadRefusal
+        all-passed = (λ i. found-verdict i .refusal) ∙ zero
+
+        pub accepted : {counted : List ℕ} → counted ≡ withCounts lists (h .n) (λ i. numberAt (isBig h) 8 part (8 * i))
+            → record { loaded = loadedOf h (last .maxchunks) 0; lists = counted; refusal = 0; fault = v .fault } ≡ checkAnswer image cells
+        unfolding checkAnswer loadedIn listsIn listsOf headIn
+        accepted {counted} e =
+            let n = tasksIn image in
+            let ranks = filled n (rankIn image) in
+            let sizes = filled n (sizeIn image) in
+            let made : counted ≡ listsIn image =
+            e
+            ∙ rw (part-is, f .head-is, f .lists-is)
+            (counts-put n (rankIn image) (sizeIn image) (few-tasks image (f .zero)) (λ i. numberAt (isBig (headIn image)) 8 (meta2Bytes image) (8 * i))
+            ∙ ap (λ (xs : List ℕ). ranks ++ (sizes ++ xs))
+            (counts-are (headIn image) (sizeIn image) (maxchunksIn image) (meta2In image) (meta2Bytes image) (few-chunks image (f .zero)) second-passes)) in
+            (λ i. record { loaded = loadedOf (f .head-is i) (f .last-is i .maxchunks) 0; lists = made i; refusal = 0; fault = no-fault i })
+            ∙ sym (when-accepted (loadRefusal image cells) _ _ all-passed)
 
 -- ---- a load: the check, then the table
 
@@ -262,12 +314,12 @@ module _ (image : List ℕ) (table : List ℤ) {answer : LoadAnswer} (checked : 
   table-kept some = sym (when-refused (loadRefusal image (length table)) _ _ (rw refusal-is (some-number some)))
 
   module _ (none : answer .refusal ≡ 0) where
-    answer-is : answer ≡ record { loaded = loadedIn image; lists = listsIn image; refusal = 0 }
+    answer-is : answer ≡ record { loaded = loadedIn image; lists = listsIn image; refusal = 0; fault = noFault }
     unfolding checkAnswer
     answer-is = checked ∙ when-accepted (loadRefusal image (length table)) _ _ (refusal-is ∙ none)
 
     passes : firstFailing (meta1Tests image (length image)) ≡ 0
-    unfolding loadRefusal
+    unfolding loadRefusal loadTests
     passes = both-pass (meta1Tests image (length image)) _ (meta1-numbered image (length image)) (refusal-is ∙ none) .0
 
     pub fillable : Meta2Fits (answer .loaded .head) (answer .lists) (answer .loaded .maxchunks) image table

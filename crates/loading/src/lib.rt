@@ -5,10 +5,13 @@ ghost use Rattle.format.specs.declared.head.Head.{Head};
 ghost use Rattle.format.specs.Meta2.{meta2Part};
 ghost use Rattle.format.specs.Record.{sizeOf, noLists, meta2At};
 ghost use Rattle.format.specs.Judge.{valuesIn};
+ghost use Rattle.format.specs.declared.fault.Verdict.{Verdict};
 ghost use Rattle.format.specs.declared.loaded.LoadAnswer.{LoadAnswer};
 ghost use Rattle.format.specs.Loaded.{noLoaded};
 ghost use Rattle.format.specs.Load.{checkAnswer, loadAnswer, loadTable};
 ghost use Rattle.format.specs.Passed.{Meta2Fits};
+use format::fault;
+use format::fault::Verdict;
 use format::head;
 use format::head::Head;
 use format::head::LISTS;
@@ -17,12 +20,13 @@ use format::loaded::Loaded;
 use format::refusal;
 use rules::heads;
 
-// A refusal beside a record of zeros marked closed.
-fn no_container(refusal: u32) -> LoadAnswer
-    ensures { λ r. ⌜ r ≡ record { loaded = noLoaded; lists = noLists; refusal = refusal } ⌝ }
+// A verdict that does not pass, beside a record of zeros marked closed.
+fn no_container(verdict: Verdict) -> LoadAnswer
+    ensures { λ r. ⌜ r ≡ record { loaded = noLoaded; lists = noLists; refusal = verdict .refusal; fault = verdict .fault } ⌝ }
 {
     let head = heads::no_head();
     let lists = [0; LISTS];
+    let fault = verdict.fault;
     LoadAnswer {
         loaded: Loaded {
             head,
@@ -30,7 +34,8 @@ fn no_container(refusal: u32) -> LoadAnswer
             closed: 1,
         },
         lists,
-        refusal,
+        refusal: verdict.refusal,
+        fault,
     }
 }
 
@@ -39,26 +44,34 @@ pub fn check(image: &[u8], cells: usize) -> LoadAnswer
     ensures { λ r. ⌜ r ≡ checkAnswer (now (image .entry)) cells ⌝ }
 {
     let len = image.len() as u64;
-    let one = meta1::judge_fixed(image, len);
-    if one.refusal != 0 {
-        return no_container(one.refusal);
+    let one = front::judge_fixed(image, len);
+    if one.verdict.refusal != 0 {
+        return no_container(one.verdict);
     }
     let head = one.head;
     let mut lists = [0; LISTS];
     let last = meta1::judge_lists(image, len, head, &mut lists);
-    if last.refusal != 0 {
-        return no_container(last.refusal);
+    if last.verdict.refusal != 0 {
+        return no_container(last.verdict);
     }
     let maxchunks = last.maxchunks;
-    if cells < head.n as usize * maxchunks as usize {
-        return no_container(refusal::TOO_SHORT);
+    let needed = head.n as usize * maxchunks as usize;
+    if cells < needed {
+        return no_container(faults::not_as_needed(
+            refusal::TOO_SHORT,
+            fault::TABLE,
+            0,
+            cells as u64,
+            needed as u64,
+        ));
     }
     let start = last.start as usize;
     let end = start + layout::meta2_length(head.n, maxchunks) as usize;
-    let refusal = meta2::judge(&image[start..end], head, maxchunks, &mut lists);
-    if refusal != 0 {
-        return no_container(refusal);
+    let two = meta2::judge(&image[start..end], last.start, head, maxchunks, &mut lists);
+    if two.refusal != 0 {
+        return no_container(two);
     }
+    let fault = two.fault;
     LoadAnswer {
         loaded: Loaded {
             head,
@@ -67,6 +80,7 @@ pub fn check(image: &[u8], cells: usize) -> LoadAnswer
         },
         lists,
         refusal: 0,
+        fault,
     }
 }
 

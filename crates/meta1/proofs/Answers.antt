@@ -1,136 +1,41 @@
--- What the tests of META1 answer, from what the code finds as it goes through them, part by part.
+-- What the tests of META1's lists and last fields answer, from what the code finds as it goes through them.
 use mathlib.Core.Path.{_≡_, refl, ap, ap₂, sym, _∙_}
-use mathlib.Core.Bool.{Bool, true, false, cond, not, _||_}
-use mathlib.Core.List.{List, _++_}
-use mathlib.Core.Logic.{⊎-elim}
+use mathlib.Core.Bool.{true, false, not}
+use mathlib.Core.List.{List, [], _∷_, _++_}
 use Prim.Native.Nat.{ℕ, suc, _+_, _*_, _^_, _<_, _≤_}
-use native.Mathlib.Nat.{eq-zero-or-pos}
 use native.Mathlib.Omega.{arith}
 use borrow.Author.Tests.{lt-ltb, le-ltb, ltb-false, eq-eqb, ne-eqb, not-false}
 use lib.Dec.{ltb, eqb}
 use lib.IntN.{pos}
 use lib.ListN.{length}
 use Rattle.endian.specs.Number.{numberAt}
-use Rattle.lists.specs.Below.{allBelow}
+use Rattle.lists.specs.Below.{allBelow, firstNot}
 use Rattle.endian.specs.Signed.{signed, within, natural}
-use Rattle.lists.proofs.Below.{and-left}
-use Rattle.endian.proofs.Signed.{natural-signed}
-use Rattle.format.specs.Limits.{formatRule, maxTasks, maxRank, maxSize, blocksizeRule, tasksRule, maxchunksRule, allDifferent, ranksRule, sizesRule}
+use Rattle.lists.proofs.Below.{and-left, first-cong, first-past}
+use Rattle.endian.proofs.Signed.{within-signed, natural-signed}
+use Rattle.format.specs.Limits.{maxTasks, maxRank, maxSize, maxBlocks, blocksizeRule, maxchunksRule, allDifferent, rankRule, ranksRule, sizesRule}
 use Rattle.format.specs.Layout.{meta1End, meta2End}
-use Rattle.format.proofs.Power.{blocksize-facts}
 use Rattle.format.proofs.Chunks.{meta2End-small}
 use Rattle.format.specs.declared.head.Head.{Head}
-use Rattle.meta1.specs.declared.Start.{Start}
-use Rattle.meta1.specs.declared.Fixed.{Fixed}
 use Rattle.meta1.specs.declared.Last.{Last}
-use Rattle.format.specs.Refusals.{firstFailing}
-use Rattle.format.specs.Meta1.{fixedLength, lastAt, versionField, patchField, rankField, sizeField}
-use Rattle.format.specs.Record.{entry, allLists, sizesOf, rankOf, sizeOf, filled, listsOf, isBig, orderOf, meta2At, endAt, headOf, noHead}
-use Rattle.format.specs.Judge.{is, bigIn, tasksIn, maxchunksIn, headIn, rankIn, sizeIn, meta2In, startTests, fieldTests, fixedTests, listTests, lastTests, restTests}
-use Rattle.meta1.specs.Judging.{startGives, fixedGives, restGives, listsRead, FieldsRead, HeadRead, ListsPassed}
-use Rattle.format.proofs.Refusals.{Numbered, first-passes, first-fails, both-pass, none-fails, when-accepted, number-is}
+use Rattle.format.specs.declared.fault.Fault.{Fault}
+use Rattle.format.specs.declared.fault.Verdict.{Verdict}
+use Rattle.format.specs.Kinds
+use Rattle.format.specs.Refusals.{Test, testAt, faultOf, firstFailing, verdict, passed}
+use Rattle.format.specs.Meta1.{fixedLength, rankAt, sizeAt, lastAt, startAt, rankField, sizeField}
+use Rattle.format.specs.Record.{entry, allLists, sizesOf, rankOf, sizeOf, filled, listsOf, isBig, meta2At, endAt}
+use Rattle.format.specs.Judge.{maxStart, numberFault, endFault, bigIn, tasksIn, maxchunksIn, headIn, rankIn, sizeIn, meta2In, startTests, fieldTests, fixedTests, rankTests, requestedTests, lastTests, restTests}
+use Rattle.front.specs.Judging.{HeadRead}
+use Rattle.meta1.specs.Judging.{restBy, restGives, listsRead, ListsPassed}
+use Rattle.format.proofs.Refusals.{both-pass, none-fails, when-accepted, when-refused, either-is}
+use Rattle.format.proofs.Verdicts.{fails-first, passes-first, passes-last, verdict-passes, verdict-fails, fields-first, fields-pass}
+use Rattle.format.proofs.Accepting.{start-numbered, field-numbered, rank-numbered, size-numbered, ranks-hold, sizes-hold}
 use Rattle.format.proofs.Stripes.{length-lists, length-sizes, rank-made, size-made}
 use Rattle.format.proofs.Record.{isBig-order, meta2At-agree, endAt-agree}
 use Rattle.format.proofs.Rules.{blocksize-natural, tasks-natural}
-use Rattle.format.proofs.Formats.{format-facts, format-number}
-use Rattle.format.proofs.Fields.{is-number, blocksize-number, tasks-number, maxchunks-number, tasks-facts, maxchunks-facts, passed-agree}
+use Rattle.format.proofs.Fields.{is-number, maxchunks-number, maxchunks-facts, verdict-agree}
 use Rattle.format.proofs.Filled.{filled-cong}
-use Rattle.format.proofs.Unsigned.{all-unsigned, natural-unsigned, ranks-unsigned, sizes-unsigned}
-
-module _ (xs : List ℕ) (len : ℕ) where
-  -- ---- one list of tests after another
-  start-numbered : Numbered (startTests xs len)
-  unfolding startTests
-  start-numbered = omega arith
-
-  field-numbered : Numbered (fieldTests xs len)
-  unfolding fieldTests
-  field-numbered = omega arith
-
-  pub fixed-numbered : Numbered (fixedTests xs len)
-  unfolding fixedTests startTests fieldTests
-  fixed-numbered = omega arith
-
-  list-numbered : Numbered (listTests xs)
-  unfolding listTests
-  list-numbered = omega arith
-
-  pub start-long : firstFailing (startTests xs len) ≡ 0 → fixedLength ≤ len
-  unfolding startTests
-  start-long e = let (mark, (order, (long, end))) = none-fails (startTests xs len) start-numbered e in ltb-false len fixedLength long
-
-  -- ---- what the first tests give
-  start-number : startGives xs len .refusal ≡ firstFailing (startTests xs len)
-  unfolding startGives
-  start-number = number-is (firstFailing (startTests xs len)) _ _ (λ (s : Start). s .refusal) refl refl
-
-  pub refused-start : (r : ℕ) → firstFailing (startTests xs len) ≡ suc r → record { refusal = suc r; big = false } ≡ startGives xs len
-  unfolding startGives
-  refused-start r e = rw (e, ne-eqb (suc r) 0 (λ z. omega arith))
-
-  module _ {s : Start} (gives : s ≡ startGives xs len) where
-    number-given : s .refusal ≡ firstFailing (startTests xs len)
-    number-given = ap (λ (s : Start). s .refusal) gives ∙ start-number
-
-    pub start-passed : s .refusal ≡ 0 → firstFailing (startTests xs len) ≡ 0
-    start-passed z = sym number-given ∙ z
-
-    pub order-given : s .refusal ≡ 0 → s .big ≡ bigIn xs
-    unfolding startGives
-    order-given z = ap (λ (s : Start). s .big) (gives ∙ when-accepted _ _ _ (start-passed z))
-
-    pub start-refused : (s .refusal ≡ 0 → ⊥) → record { refusal = s .refusal; head = noHead } ≡ fixedGives xs len
-    unfolding fixedGives fixedTests
-    start-refused some =
-        let number = first-fails (startTests xs len) (fieldTests xs len) (rw (sym number-given) (nonzero some)) ∙ sym number-given in
-        rw (number, ne-eqb (s .refusal) 0 some)
-      where
-        nonzero : {q : ℕ} → (q ≡ 0 → ⊥) → 0 < q
-        nonzero some = ⊎-elim (λ z. absurd (some z)) (λ l. l) (eq-zero-or-pos _)
-
-  -- ---- what the fixed fields give
-  module _ (zero : firstFailing (startTests xs len) ≡ 0) {r : ℕ} (is-first : r ≡ firstFailing (fieldTests xs len)) where
-    after-start : firstFailing (fixedTests xs len) ≡ r
-    unfolding fixedTests
-    after-start = first-passes (startTests xs len) (fieldTests xs len) start-numbered zero ∙ sym is-first
-
-    pub fields-refused : (r ≡ 0 → ⊥) → record { refusal = r; head = noHead } ≡ fixedGives xs len
-    unfolding fixedGives
-    fields-refused some = rw (after-start, ne-eqb r 0 some)
-
-    pub fields-passed : {h : Head} → r ≡ 0 → h ≡ headIn xs → record { refusal = 0; head = h } ≡ fixedGives xs len
-    unfolding fixedGives
-    fields-passed z e = rw (after-start ∙ z, e)
-
-  pub fixed-number : fixedGives xs len .refusal ≡ firstFailing (fixedTests xs len)
-  unfolding fixedGives
-  fixed-number = number-is (firstFailing (fixedTests xs len)) _ _ (λ (f : Fixed). f .refusal) refl refl
-
-  pub fixed-head : firstFailing (fixedTests xs len) ≡ 0 → fixedGives xs len .head ≡ headIn xs
-  unfolding fixedGives
-  fixed-head z = ap (λ (f : Fixed). f .head) (when-accepted _ _ _ z)
-
-  -- the fields that are read are those of the head
-  pub fields-read : {big : Bool} {v b n : ℕ} → FieldsRead xs big v b n → firstFailing (fieldTests xs len) ≡ 0
-      → headOf (orderOf big) (versionField big xs) (patchField big xs) v b n ≡ headIn xs
-  unfolding headIn tasksIn fieldTests
-  fields-read {big} {v} {b} {n} p zero =
-      let (format, (block, (tasks, rest))) = none-fails (fieldTests xs len) field-numbered zero in
-      let formed : formatRule (signed 31 v) ≡ true = rw (p .format-is, p .order-is) (not-false _ format) in
-      let blocked : blocksizeRule (signed 31 b) ≡ true = rw (p .blocksize-is, p .order-is) (not-false _ block) in
-      let counted : tasksRule (signed 31 n) ≡ true = rw (p .tasks-are, p .order-is) (not-false _ tasks) in
-      let known : v < 2 ^ 31 = omega (arith, format-facts v (sym (format-number v) ∙ formed)) in
-      let small : b < 2 ^ 31 = omega (arith, blocksize-facts b (sym (blocksize-number b) ∙ blocked)) in
-      let few : n < 2 ^ 31 = omega (arith, tasks-facts n (sym (tasks-number n) ∙ counted)) in
-      rw (
-        sym (p .order-is),
-        sym (p .format-is),
-        sym (p .blocksize-is),
-        sym (p .tasks-are),
-        natural-signed 31 v known,
-        natural-signed 31 b small,
-        natural-signed 31 n few,
-      )
+use Rattle.format.proofs.Unsigned.{all-unsigned, natural-unsigned, rank-unsigned}
 
 -- ---- the head that the fixed fields gave
 module _ {xs : List ℕ} {len : ℕ} {h : Head} (p : HeadRead xs len h) where
@@ -146,7 +51,7 @@ module _ {xs : List ℕ} {len : ℕ} {h : Head} (p : HeadRead xs len h) where
   unfolding headIn tasksIn fixedTests fieldTests
   head-facts =
       let zero = both-pass (startTests xs len) (fieldTests xs len) (start-numbered xs len) (p .fixed) .1 in
-      let (format, (block, (tasks, (files, (long, end))))) = none-fails (fieldTests xs len) (field-numbered xs len) zero in (
+      let (format, (block, (tasks, (files, (number, (long, end)))))) = none-fails (fieldTests xs len) (field-numbered xs len) zero in (
         rw (p .head-is) (ap blocksizeRule (sym (blocksize-natural _ (not-false _ block) .0)) ∙ not-false _ block),
         rw (p .head-is) (tasks-natural _ (not-false _ tasks) .2),
         rw (p .head-is) (ltb-false len (meta1End (tasksIn xs)) long),
@@ -157,6 +62,10 @@ module _ {xs : List ℕ} {len : ℕ} {h : Head} (p : HeadRead xs len h) where
 
   pub head-long : meta1End (h .n) ≤ len
   head-long = head-facts .2
+
+  refused-rest : {v : Verdict} → 0 < v .refusal → verdict (restTests xs len) ≡ v → record { verdict = v; maxchunks = 0; start = 0 } ≡ restGives xs len
+  unfolding restGives
+  refused-rest {v} some e = sym (ap (restBy xs) e ∙ when-refused (v .refusal) _ _ some)
 
   -- ---- the lists, once they are read without a sign
   abbrev rank : ℕ → ℕ
@@ -178,47 +87,80 @@ module _ {xs : List ℕ} {len : ℕ} {h : Head} (p : HeadRead xs len h) where
     unfolding listsRead
     read-long = rw read (length-lists (h .n) rank size (λ i. 0))
 
-    ranks-judged : ranksRule (tasksIn xs) (rankField (bigIn xs) xs) ≡ ranksRule (h .n) (λ i. pos (rankOf lists i))
-    ranks-judged = rw (sym head-n, sym head-big) (sym (ranks-unsigned 63 (h .n) rank (rankOf lists) rank-read (omega arith)))
+    -- the first that breaks its rule is the same of the fields and of what is read
+    first-rank : {i : ℕ} → i ≡ firstNot (h .n) (rankRule (λ j. pos (rankOf lists j))) → i ≡ firstNot (tasksIn xs) (rankRule (rankField (bigIn xs) xs))
+    first-rank e =
+        rw (sym head-n, sym head-big)
+        (e ∙ first-cong _ (rankRule (rankField (isBig h) xs)) (h .n) (rank-unsigned 63 (h .n) rank (rankOf lists) rank-read (omega arith)))
 
-    sizes-judged : sizesRule (tasksIn xs) (sizeField (bigIn xs) xs (tasksIn xs)) ≡ sizesRule (h .n) (λ i. pos (sizeOf lists i))
-    sizes-judged = rw (sym head-n, sym head-big) (sym (sizes-unsigned 63 (h .n) size (sizeOf lists) size-read (omega arith)))
+    first-size : {i : ℕ} → i ≡ firstNot (h .n) (λ j. within 1 maxSize (pos (sizeOf lists j)))
+        → i ≡ firstNot (tasksIn xs) (λ j. within 1 maxSize (sizeField (bigIn xs) xs (tasksIn xs) j))
+    first-size e =
+        rw (sym head-n, sym head-big)
+        (e
+        ∙ first-cong _ (λ j. within 1 maxSize (sizeField (isBig h) xs (h .n) j)) (h .n)
+        (λ j l. ap (λ (v : ℕ). within 1 maxSize (pos v)) (size-read j l) ∙ sym (within-signed 1 maxSize 63 (size j) (omega arith))))
 
-    -- 8 and 9, or both lists pass
-    lists-answer : firstFailing (listTests xs)
-        ≡ cond (not (ranksRule (h .n) (λ i. pos (rankOf lists i)))) 8 (cond (not (sizesRule (h .n) (λ i. pos (sizeOf lists i)))) 9 0)
-    unfolding firstFailing listTests
-    lists-answer = ap₂ (λ (r s : Bool). cond (not r) 8 (cond (not s) 9 0)) ranks-judged sizes-judged
-
-    refused-lists : (r : ℕ) → 0 < r → firstFailing (listTests xs) ≡ r → record { refusal = r; maxchunks = 0; start = 0 } ≡ restGives xs len
-    unfolding restGives restTests
-    refused-lists r some e =
-        rw (first-fails (listTests xs) (lastTests xs len) (rw e some) ∙ e, ne-eqb r 0 (λ z. omega arith))
-
-    pub bad-ranks : ranksRule (h .n) (λ i. pos (rankOf lists i)) ≡ false → record { refusal = 8; maxchunks = 0; start = 0 } ≡ restGives xs len
-    bad-ranks e = refused-lists 8 (omega arith) (lists-answer ∙ rw e)
-
-    module _ (ranked : ranksRule (h .n) (λ i. pos (rankOf lists i)) ≡ true) where
-      pub bad-sizes : sizesRule (h .n) (λ i. pos (sizeOf lists i)) ≡ false → record { refusal = 9; maxchunks = 0; start = 0 } ≡ restGives xs len
-      bad-sizes e = refused-lists 9 (omega arith) (lists-answer ∙ rw (ranked, e))
-
-      pub lists-pass : sizesRule (h .n) (λ i. pos (sizeOf lists i)) ≡ true → ListsPassed xs len h (sizesOf lists)
-      unfolding sizeIn sizesRule
-      lists-pass e =
-          record {
-            head = p;
-            listed = lists-answer ∙ rw (ranked, e);
-            sound = record { block = head-facts .0; tasks = few-tasks; listed = omega (arith, length-sizes lists read-long, few-tasks); sized = e };
-            sizes-are = λ i l. rw (sym head-n, sym head-big) (natural-unsigned 63 (h .n) size (sizeOf lists) size-read 1 maxSize (omega arith) e i l);
+    module _ {i : ℕ} (rank-is : i ≡ firstNot (h .n) (rankRule (λ j. pos (rankOf lists j)))) where
+      pub bad-rank : i < h .n
+          → record {
+            verdict = record { refusal = 8; fault = faultOf Kinds.rank (suc i) 0 (rankAt i) (rankField (isBig h) xs i) (pos 0) (pos maxRank) };
+            maxchunks = 0;
+            start = 0;
           }
+          ≡ restGives xs len
+      unfolding restTests rankTests
+      bad-rank l =
+          let found = fields-first 8 (omega arith) _ (rankRule (rankField (bigIn xs) xs)) (first-rank rank-is) (rw (sym head-n) l) in
+          let number : firstFailing (rankTests xs) ≡ 8 = λ j. found j .refusal in
+          refused-rest (omega arith)
+          (verdict-fails (rankTests xs) _ (rw number (omega arith)) ∙ found ∙ rw head-big)
+
+      module _ (past : h .n ≤ i) where
+        ranked : firstFailing (rankTests xs) ≡ 0
+        unfolding rankTests
+        ranked = fields-pass 8 (omega arith) _ _ (tasksIn xs) (first-past _ (first-rank rank-is) (rw (sym head-n) past))
+
+        module _ {j : ℕ} (size-is : j ≡ firstNot (h .n) (λ k. within 1 maxSize (pos (sizeOf lists k)))) where
+          pub bad-size : j < h .n
+              → record {
+                verdict =
+                    record { refusal = 9; fault = faultOf Kinds.size (suc j) 0 (sizeAt (h .n) j) (sizeField (isBig h) xs (h .n) j) (pos 1) (pos maxSize) };
+                maxchunks = 0;
+                start = 0;
+              }
+              ≡ restGives xs len
+          unfolding restTests requestedTests
+          bad-size l =
+              let found = fields-first 9 (omega arith) _ _ (first-size size-is) (rw (sym head-n) l) in
+              let number : firstFailing (requestedTests xs) ≡ 9 = λ k. found k .refusal in
+              refused-rest (omega arith)
+              (verdict-passes (rankTests xs) _ (rank-numbered xs len) ranked
+              ∙ verdict-fails (requestedTests xs) _ (rw number (omega arith))
+              ∙ found
+              ∙ rw (head-big, head-n))
+
+          pub lists-pass : h .n ≤ j → ListsPassed xs len h (sizesOf lists)
+          unfolding sizeIn sizesRule requestedTests
+          lists-pass end =
+              let sized = first-past _ size-is end in
+              record {
+                head = p;
+                ranked = ranked;
+                sized = fields-pass 9 (omega arith) _ _ (tasksIn xs) (first-past _ (first-size size-is) (rw (sym head-n) end));
+                sound =
+                    record { block = head-facts .0; tasks = few-tasks; listed = omega (arith, length-sizes lists read-long, few-tasks); sized = sized };
+                sizes-are =
+                    λ i l. rw (sym head-n, sym head-big) (natural-unsigned 63 (h .n) size (sizeOf lists) size-read 1 maxSize (omega arith) sized i l);
+              }
 
   -- where they pass, the lists read are those that the rules speak of
-  pub lists-are : firstFailing (listTests xs) ≡ 0 → listsRead xs h ≡ listsOf (tasksIn xs) (rankIn xs) (sizeIn xs) (λ i. 0)
-  unfolding listsRead listsOf filled rankIn sizeIn listTests ranksRule sizesRule
-  lists-are zero =
-      let (ranks, (sizes, end)) = none-fails (listTests xs) (list-numbered xs len) zero in
-      let ranked : ranksRule (h .n) (rankField (isBig h) xs) ≡ true = rw (head-n, head-big) (not-false _ ranks) in
-      let sized : sizesRule (h .n) (sizeField (isBig h) xs (h .n)) ≡ true = rw (head-n, head-big) (not-false _ sizes) in
+  pub lists-are : firstFailing (rankTests xs) ≡ 0 → firstFailing (requestedTests xs) ≡ 0
+      → listsRead xs h ≡ listsOf (tasksIn xs) (rankIn xs) (sizeIn xs) (λ i. 0)
+  unfolding listsRead listsOf filled rankIn sizeIn ranksRule sizesRule
+  lists-are ranks sizes =
+      let ranked : ranksRule (h .n) (rankField (isBig h) xs) ≡ true = rw (head-n, head-big) (ranks-hold xs len ranks) in
+      let sized : sizesRule (h .n) (sizeField (isBig h) xs (h .n)) ≡ true = rw (head-n, head-big) (sizes-hold xs len sizes) in
       rw (sym head-n, sym head-big)
       (ap₂ (λ (r s : List ℕ). r ++ (s ++ filled (h .n) (λ i. 0)))
       (list-read rank 0 maxRank (omega arith) (and-left _ (allDifferent (h .n) (rankField (isBig h) xs)) ranked))
@@ -259,65 +201,82 @@ module _ {xs : List ℕ} {len : ℕ} {h : Head} {sizes : List ℕ} {m start : �
   unfolding meta2At meta2End
   place-small e = omega (arith, meta2End-small (r .passed .sound) m (maxchunks-facts m e))
 
-  abbrev answer : ℕ
-  answer =
-      cond (eqb start 0) 10
-      (cond (not (maxchunksRule (pos m))) 11
-      (cond (not (eqb start (meta2At h (entry sizes) m)) || ltb len (endAt h (entry sizes) m)) 12 0))
+  -- the tests of what is read
+  abbrev place : ℕ
+  place = meta2At h (entry sizes) m
 
-  last-unsigned : firstFailing (lastTests xs len) ≡ answer
-  unfolding firstFailing lastTests
+  abbrev end : ℕ
+  end = endAt h (entry sizes) m
+
+  abbrev startFault : ℕ → ℕ → Fault
+  startFault = numberFault Kinds.start (startAt (h .n)) (signed 63 start)
+
+  abbrev maxchunksFault : Fault
+  maxchunksFault = numberFault Kinds.maxchunks (lastAt (h .n)) (signed 31 m) 0 maxBlocks
+
+  abbrev unsignedLast : List Test
+  unsignedLast =
+      testAt 10 (startFault 1 maxStart) (eqb start 0)
+      ∷ testAt 11 maxchunksFault (not (maxchunksRule (pos m)))
+      ∷ testAt 12 (startFault place place) (not (eqb start place))
+      ∷ testAt 12 (endFault len end) (ltb len end)
+      ∷ []
+
+  last-unsigned : verdict (lastTests xs len) ≡ verdict unsignedLast
+  unfolding lastTests
   last-unsigned =
       let p = r .passed .head in
       rw (sym (head-n p), sym (head-big p), sym (r .maxchunks-is), sym (r .start-is), is-number 0 63 start (omega arith), maxchunks-number m)
-      (ap (λ (rest : ℕ). cond (eqb start 0) 10 rest)
-      (passed-agree (maxchunksRule (pos m)) 11
-      (cond (not (is (meta2In xs) (signed 63 start)) || ltb len (endAt (headIn xs) (sizeIn xs) (maxchunksIn xs))) 12 0)
-      (cond (not (eqb start (meta2At h (entry sizes) m)) || ltb len (endAt h (entry sizes) m)) 12 0)
-      (λ e. rw (place-in e, end-in e, is-number (meta2At h (entry sizes) m) 63 start (place-small e)))))
+      (verdict-agree _ _ _ (λ _. verdict-agree _ _ _
+      (λ e. let counted = not-false (maxchunksRule (pos m)) e in rw (place-in counted, end-in counted, is-number place 63 start (place-small counted)) refl)))
 
-  last-answer : firstFailing (restTests xs len) ≡ answer
+  last-answer : verdict (restTests xs len) ≡ verdict unsignedLast
   unfolding restTests
-  last-answer = first-passes (listTests xs) (lastTests xs len) (list-numbered xs len) (r .passed .listed) ∙ last-unsigned
+  last-answer =
+      verdict-passes (rankTests xs) _ (rank-numbered xs len) (r .passed .ranked)
+      ∙ verdict-passes (requestedTests xs) _ (size-numbered xs len) (r .passed .sized)
+      ∙ last-unsigned
 
-  refused : (q : ℕ) → 0 < q → firstFailing (restTests xs len) ≡ q → record { refusal = q; maxchunks = 0; start = 0 } ≡ restGives xs len
-  unfolding restGives
-  refused q some e = rw (e, ne-eqb q 0 (λ z. omega arith))
+  refused : {v : Verdict} → 0 < v .refusal → verdict unsignedLast ≡ v → record { verdict = v; maxchunks = 0; start = 0 } ≡ restGives xs len
+  refused some e = refused-rest (r .passed .head) some (last-answer ∙ e)
 
-  pub not-closed : start ≡ 0 → record { refusal = 10; maxchunks = 0; start = 0 } ≡ restGives xs len
-  not-closed e = refused 10 (omega arith) (last-answer ∙ rw (eq-eqb start 0 e))
+  pub not-closed : start ≡ 0 → record { verdict = record { refusal = 10; fault = startFault 1 maxStart }; maxchunks = 0; start = 0 } ≡ restGives xs len
+  not-closed e = refused (omega arith) (fails-first _ _ (eq-eqb start 0 e))
 
   module _ (closed : start ≡ 0 → ⊥) where
-    pub bad-maxchunks : maxchunksRule (pos m) ≡ false → record { refusal = 11; maxchunks = 0; start = 0 } ≡ restGives xs len
-    bad-maxchunks e = refused 11 (omega arith) (last-answer ∙ rw (ne-eqb start 0 closed, e))
+    pub bad-maxchunks : maxchunksRule (pos m) ≡ false
+        → record { verdict = record { refusal = 11; fault = maxchunksFault }; maxchunks = 0; start = 0 } ≡ restGives xs len
+    bad-maxchunks e = refused (omega arith) (passes-first _ _ (ne-eqb start 0 closed) ∙ fails-first _ _ (ap not e))
 
     module _ (counted : maxchunksRule (pos m) ≡ true) where
-      pub start-wrong : (start ≡ meta2At h (entry sizes) m → ⊥) → record { refusal = 12; maxchunks = 0; start = 0 } ≡ restGives xs len
-      start-wrong e =
-          refused 12 (omega arith) (last-answer ∙ rw (ne-eqb start 0 closed, counted, ne-eqb start (meta2At h (entry sizes) m) e))
+      two-passed : verdict unsignedLast
+          ≡ verdict (testAt 12 (startFault place place) (not (eqb start place)) ∷ testAt 12 (endFault len end) (ltb len end) ∷ [])
+      two-passed = passes-first _ _ (ne-eqb start 0 closed) ∙ passes-first _ _ (ap not counted)
 
-      module _ (place : start ≡ meta2At h (entry sizes) m) where
-        pub past-end : len < endAt h (entry sizes) m → record { refusal = 12; maxchunks = 0; start = 0 } ≡ restGives xs len
-        past-end l =
-            refused 12 (omega arith)
-            (last-answer
-            ∙ rw (ne-eqb start 0 closed, counted, eq-eqb start (meta2At h (entry sizes) m) place, lt-ltb len (endAt h (entry sizes) m) l))
+      pub start-wrong : (start ≡ place → ⊥)
+          → record { verdict = record { refusal = 12; fault = startFault place place }; maxchunks = 0; start = 0 } ≡ restGives xs len
+      start-wrong e = refused (omega arith) (two-passed ∙ fails-first _ _ (ap not (ne-eqb start place e)))
+
+      module _ (there : start ≡ place) where
+        three-passed : verdict unsignedLast ≡ verdict (testAt 12 (endFault len end) (ltb len end) ∷ [])
+        three-passed = two-passed ∙ passes-first _ _ (ap not (eq-eqb start place there))
+
+        pub past-end : len < end → record { verdict = record { refusal = 12; fault = endFault len end }; maxchunks = 0; start = 0 } ≡ restGives xs len
+        past-end l = refused (omega arith) (three-passed ∙ fails-first _ _ (lt-ltb len end l))
 
         -- accepted, the numbers read are handed back
-        pub accepted-last : endAt h (entry sizes) m ≤ len → record { refusal = 0; maxchunks = m; start = start } ≡ restGives xs len
+        pub accepted-last : {v : Verdict} → v ≡ passed → end ≤ len → record { verdict = v; maxchunks = m; start = start } ≡ restGives xs len
         unfolding restGives
-        accepted-last l =
-            let zero : firstFailing (restTests xs len) ≡ 0 =
-            last-answer
-            ∙ rw (ne-eqb start 0 closed, counted, eq-eqb start (meta2At h (entry sizes) m) place, le-ltb len (endAt h (entry sizes) m) l) in
-            rw (zero, maxchunks-in counted, place-in counted)
-            (λ i. record { refusal = 0; maxchunks = m; start = place i })
+        accepted-last passes l =
+            let none : verdict (restTests xs len) ≡ passed = last-answer ∙ three-passed ∙ passes-last _ (le-ltb len end l) in
+            (λ i. record { verdict = passes i; maxchunks = sym (maxchunks-in counted) i; start = (there ∙ sym (place-in counted)) i })
+            ∙ sym (ap (restBy xs) none)
 
-pub rest-number : (xs : List ℕ) (len : ℕ) → restGives xs len .refusal ≡ firstFailing (restTests xs len)
+pub rest-verdict : (xs : List ℕ) (len : ℕ) → restGives xs len .verdict ≡ verdict (restTests xs len)
 unfolding restGives
-rest-number xs len = number-is (firstFailing (restTests xs len)) _ _ (λ (l : Last). l .refusal) refl refl
+rest-verdict xs len = either-is (eqb (firstFailing (restTests xs len)) 0) _ _ (λ (l : Last). l .verdict) refl refl
 
 pub rest-is : (xs : List ℕ) (len : ℕ) → firstFailing (restTests xs len) ≡ 0
-    → restGives xs len ≡ record { refusal = 0; maxchunks = maxchunksIn xs; start = meta2In xs }
+    → restGives xs len ≡ record { verdict = verdict (restTests xs len); maxchunks = maxchunksIn xs; start = meta2In xs }
 unfolding restGives
 rest-is xs len z = when-accepted _ _ _ z

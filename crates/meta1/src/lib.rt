@@ -1,185 +1,42 @@
-// META1, the first metadata block, judged from an image's first bytes and the image's whole length: first the fields that every META1 has at the
-// same place, then the lists and the last two fields.
+// META1, the first metadata block, judged where the fields that every container has at the same place passed: its lists and its last two fields.
 ghost use mathlib.Core.Path.{_≡_};
-ghost use mathlib.Core.Bool.{false};
-ghost use Prim.Native.Nat.{_+_, _*_, _<_, _≤_, _^_};
+ghost use Prim.Native.Nat.{suc, _+_, _*_, _<_, _≤_, _^_};
+ghost use lib.IntN.{pos};
 ghost use lib.ListN.{length};
 ghost use Rattle.lists.specs.Below.{listBelow};
 ghost use Rattle.endian.specs.Number.{numberAt};
-ghost use Rattle.endian.specs.Signed.{signedAt};
+ghost use Rattle.endian.specs.Signed.{signed, signedAt};
+ghost use Rattle.endian.specs.declared.read.Number8.{Number8};
 ghost use Rattle.lists.specs.Splice.{splice};
 ghost use Rattle.format.specs.declared.head.Head.{Head};
-ghost use Rattle.meta1.specs.declared.Start.{Start};
-ghost use Rattle.meta1.specs.declared.Fixed.{Fixed};
 ghost use Rattle.meta1.specs.declared.Last.{Last};
-ghost use Rattle.format.specs.Refusals.{firstFailing};
-ghost use Rattle.format.specs.Record.{noHead, noLists};
-ghost use Rattle.format.specs.Judge.{is, magicIn, bigIn, orderedIn, fieldTests};
-ghost use Rattle.meta1.specs.Judging.{Covers, FieldsRead, HeadRead, ListsPassed, listsRead, startGives, fixedGives, restGives};
+ghost use Rattle.format.specs.declared.fault.Verdict.{Verdict};
+ghost use Rattle.format.specs.Limits.{maxTasks};
+ghost use Rattle.format.specs.Kinds;
+ghost use Rattle.format.specs.Refusals.{faultOf};
+ghost use Rattle.format.specs.Judge.{numberFault};
+ghost use Rattle.format.specs.Record.{noLists};
+ghost use Rattle.front.specs.Judging.{HeadRead};
+ghost use Rattle.meta1.specs.Judging.{ListsPassed, listsRead, restGives};
 use endian::read;
+use endian::read::Number8;
+use format::fault;
+use format::fault::Verdict;
 use format::field;
 use format::head;
 use format::head::Head;
+use format::limit;
 use format::refusal;
-use rules::heads;
 use rules::limits;
 
-// What the first tests give: a refusal, or 0 and whether the byte order is big.
-pub struct Start {
-    pub refusal: u32,
-    pub big: bool,
-}
+// The greatest number that start_of_varheader can be.
+const MAX_START: u64 = 0x7fff_ffff_ffff_ffff;
 
-// What the fixed fields give: a refusal and zeros, or 0 and the head.
-pub struct Fixed {
-    pub refusal: u32,
-    pub head: Head,
-}
-
-// What the rest of META1 gives beside the lists: a refusal and zeros, or 0, maxchunks and META2's start.
+// What the rest of META1 gives beside the lists: its verdict, and maxchunks and META2's start, 0 where it does not pass.
 pub struct Last {
-    pub refusal: u32,
+    pub verdict: Verdict,
     pub maxchunks: u32,
     pub start: u64,
-}
-
-fn has_magic(xs: &[u8]) -> bool
-    requires { ⌜ 4 ≤ length (now xs) ⌝ }
-    ensures { λ r. ⌜ r ≡ magicIn (now (xs .entry)) ⌝ }
-{
-    let mut i = 0;
-    while i < 4 {
-        if xs[i] != field::MAGIC[i] {
-            return false;
-        }
-        i += 1;
-    }
-    true
-}
-
-// Whether the field of 4 bytes has this value.
-fn field_is(xs: &[u8], at: usize, big: bool, value: u32) -> bool
-    requires { ⌜ (at + 4 ≤ length (now xs)) × (value < 2 ^ 31) ⌝ }
-    ensures { λ r. ⌜ r ≡ is value (signedAt big 4 (now (xs .entry)) at) ⌝ }
-{
-    read::get_u32(xs, at, big) == value
-}
-
-fn is_big(xs: &[u8]) -> bool
-    requires { ⌜ 8 ≤ length (now xs) ⌝ }
-    ensures { λ r. ⌜ r ≡ bigIn (now (xs .entry)) ⌝ }
-{
-    field_is(xs, field::ORDER_AT, true, field::ORDER)
-}
-
-// Whether the order number is 1 in one of the two orders, where `big` says whether it is in the big one.
-fn has_order(xs: &[u8], big: bool) -> bool
-    requires { ⌜ (8 ≤ length (now xs)) × (big ≡ bigIn (now xs)) ⌝ }
-    ensures { λ r. ⌜ r ≡ orderedIn (now (xs .entry)) ⌝ }
-{
-    if big {
-        return true;
-    }
-    field_is(xs, field::ORDER_AT, false, field::ORDER)
-}
-
-fn no_start(refusal: u32) -> Start
-    ensures { λ r. ⌜ r ≡ record { refusal = refusal; big = false } ⌝ }
-{
-    Start {
-        refusal,
-        big: false,
-    }
-}
-
-// Tests 1, 2 and 3: the magic number, the byte order, and that the fixed fields are there.
-fn judge_start(xs: &[u8], len: u64) -> Start
-    requires { ⌜ Covers len (now xs) ⌝ }
-    ensures { λ r. ⌜ r ≡ startGives (now (xs .entry)) len ⌝ }
-{
-    if len < 4 {
-        return no_start(refusal::NO_MARK);
-    }
-    if !has_magic(xs) {
-        return no_start(refusal::NO_MARK);
-    }
-    if len < 8 {
-        return no_start(refusal::NO_ORDER);
-    }
-    let big = is_big(xs);
-    if !has_order(xs, big) {
-        return no_start(refusal::NO_ORDER);
-    }
-    if len < field::RANKS_AT as u64 {
-        return no_start(refusal::SHORT_META1);
-    }
-    Start { refusal: 0, big }
-}
-
-// Tests 4, 5, 6, 7 and again 3: the fixed fields, and that the lists and the last two fields are there.
-fn field_refusal(xs: &[u8], len: u64, big: bool, format: u32, blocksize: u32, n: u32) -> u32
-    requires { ⌜ FieldsRead (now xs) big format blocksize n ⌝ }
-    ensures { λ r. ⌜ r ≡ firstFailing (fieldTests (now (xs .entry)) len) ⌝ }
-{
-    if !limits::format_ok(format) {
-        return refusal::BAD_FORMAT;
-    }
-    if !limits::blocksize_ok(blocksize) {
-        return refusal::BAD_BLOCKSIZE;
-    }
-    if !limits::tasks_ok(n) {
-        return refusal::BAD_TASKS;
-    }
-    if !field_is(xs, field::FILES_AT, big, field::FILES) {
-        return refusal::BAD_FILES;
-    }
-    if !field_is(xs, field::FILE_NUMBER_AT, big, field::FILE_NUMBER) {
-        return refusal::BAD_FILES;
-    }
-    if len < layout::meta1_end(n) {
-        return refusal::SHORT_META1;
-    }
-    0
-}
-
-fn no_fixed(refusal: u32) -> Fixed
-    ensures { λ r. ⌜ r ≡ record { refusal = refusal; head = noHead } ⌝ }
-{
-    let head = heads::no_head();
-    Fixed { refusal, head }
-}
-
-// Tests 1 to 7 and both of 3, of as many of the first bytes as META1 can have, or of all.
-pub fn judge_fixed(xs: &[u8], len: u64) -> Fixed
-    requires { ⌜ Covers len (now xs) ⌝ }
-    ensures { λ r. ⌜ r ≡ fixedGives (now (xs .entry)) len ⌝ }
-{
-    let start = judge_start(xs, len);
-    if start.refusal != 0 {
-        return no_fixed(start.refusal);
-    }
-    let big = start.big;
-    let format = read::get_u32(xs, field::FORMAT_AT, big);
-    let blocksize = read::get_u32(xs, field::BLOCKSIZE_AT, big);
-    let n = read::get_u32(xs, field::TASKS_AT, big);
-    let refusal = field_refusal(xs, len, big, format, blocksize, n);
-    if refusal != 0 {
-        return no_fixed(refusal);
-    }
-    let order = big as u32;
-    let version = read::get_i32(xs, field::VERSION_AT, big);
-    let patch = read::get_i32(xs, field::PATCH_AT, big);
-    Fixed {
-        refusal: 0,
-        head: Head {
-            order,
-            version,
-            patch,
-            format,
-            blocksize,
-            n,
-        },
-    }
 }
 
 // n numbers of 8 bytes, into the lists from `at` on.
@@ -189,19 +46,28 @@ pub fn read_stripe(lists: &mut [u64], at: usize, xs: &[u8], from: usize, n: usiz
 {
     let mut i = 0;
     while i < n {
-        lists[at + i] = read::get_u64(xs, from + 8 * i, big);
+        lists[at + i] = read::get_u64(xs, from + 8 * i, big).value;
         i += 1;
     }
 }
 
-fn no_last(refusal: u32) -> Last
-    ensures { λ r. ⌜ r ≡ record { refusal = refusal; maxchunks = 0; start = 0 } ⌝ }
+fn no_last(verdict: Verdict) -> Last
+    ensures { λ r. ⌜ r ≡ record { verdict = verdict; maxchunks = 0; start = 0 } ⌝ }
 {
     Last {
-        refusal,
+        verdict,
         maxchunks: 0,
         start: 0,
     }
+}
+
+// start_of_varheader breaks its rule, which bounds it by `least` and `most`.
+fn bad_start(refusal: u32, start: Number8, least: u64, most: u64) -> Last
+    requires { ⌜ (least < 2 ^ 63) × (most < 2 ^ 63) ⌝ }
+    ensures { λ r. ⌜ r ≡ record { verdict = record { refusal = refusal; fault = numberFault Kinds.start (start .at) (signed 63 (start .value)) least most }; maxchunks = 0; start = 0 } ⌝ }
+{
+    let place = start.at as u64;
+    no_last(faults::number8(refusal, fault::START, 0, place, start.value, least, most))
 }
 
 // Tests 10, 11 and 12: the last two fields, where 8 and 9 passed.
@@ -212,25 +78,67 @@ fn judge_last(xs: &[u8], len: u64, h: Head, sizes: &[u64]) -> Last
     let big = h.order == 1;
     let at = layout::last_at(h.n as usize);
     let maxchunks = read::get_u32(xs, at, big);
+    let m = maxchunks.value;
     let start = read::get_u64(xs, at + 4, big);
-    if start == 0 {
-        return no_last(refusal::NOT_CLOSED);
+    let says = start.value;
+    if says == 0 {
+        return bad_start(refusal::NOT_CLOSED, start, 1, MAX_START);
     }
-    if !limits::maxchunks_ok(maxchunks) {
-        return no_last(refusal::BAD_MAXCHUNKS);
+    if !limits::maxchunks_ok(m) {
+        let most = limit::MAX_BLOCKS as u64;
+        return no_last(faults::number4(
+            refusal::BAD_MAXCHUNKS,
+            fault::MAXCHUNKS,
+            maxchunks,
+            0,
+            most,
+        ));
     }
-    let place = layout::meta2_start(sizes, h.n, h.blocksize, maxchunks);
-    if start != place {
-        return no_last(refusal::BAD_META2_PLACE);
+    let place = layout::meta2_start(sizes, h.n, h.blocksize, m);
+    if says != place {
+        return bad_start(refusal::BAD_META2_PLACE, start, place, place);
     }
-    if len < place + layout::meta2_length(h.n, maxchunks) {
-        return no_last(refusal::BAD_META2_PLACE);
+    let end = place + layout::meta2_length(h.n, m);
+    if len < end {
+        return no_last(faults::not_as_needed(
+            refusal::BAD_META2_PLACE,
+            fault::IMAGE,
+            len,
+            len,
+            end,
+        ));
     }
     Last {
-        refusal: 0,
-        maxchunks,
-        start,
+        verdict: faults::passes(),
+        maxchunks: m,
+        start: says,
     }
+}
+
+// The number of 8 bytes at an offset breaks its rule, which bounds it by `least` and `most`; it is of task i + 1.
+fn bad_entry(
+    xs: &[u8],
+    at: usize,
+    big: bool,
+    refusal: u32,
+    field: u32,
+    i: usize,
+    least: u64,
+    most: u64,
+) -> Last
+    requires { ⌜ (at + 8 ≤ length (now xs)) × (i < maxTasks) × (least < 2 ^ 63) × (most < 2 ^ 63) ⌝ }
+    ensures { λ r. ⌜ r ≡ record { verdict = record { refusal = refusal; fault = faultOf field (suc i) 0 at (signedAt big 8 (now (xs .entry)) at) (pos least) (pos most) }; maxchunks = 0; start = 0 } ⌝ }
+{
+    let read = read::get_u64(xs, at, big);
+    no_last(faults::number8(
+        refusal,
+        field,
+        i as u32 + 1,
+        read.at as u64,
+        read.value,
+        least,
+        most,
+    ))
 }
 
 // Tests 8 to 12, of ranks and sizes that were read.
@@ -238,13 +146,36 @@ fn judge_read(xs: &[u8], len: u64, h: Head, lists: &[u64]) -> Last
     requires { ⌜ HeadRead (now xs) len h × (now lists ≡ listsRead (now xs) h) ⌝ }
     ensures { λ r. ⌜ r ≡ restGives (now (xs .entry)) len ⌝ }
 {
+    let big = h.order == 1;
     let n = h.n as usize;
-    if !limits::ranks_ok(&lists[..head::SIZES], n) {
-        return no_last(refusal::BAD_RANK);
+    let rank = limits::first_bad_rank(&lists[..head::SIZES], n);
+    if rank < n {
+        let at = field::RANKS_AT + 8 * rank;
+        return bad_entry(
+            xs,
+            at,
+            big,
+            refusal::BAD_RANK,
+            fault::RANK,
+            rank,
+            0,
+            limit::MAX_RANK,
+        );
     }
     let sizes = &lists[head::SIZES..head::COUNTS];
-    if !limits::sizes_ok(sizes, n) {
-        return no_last(refusal::BAD_SIZE);
+    let size = limits::first_bad_size(sizes, n);
+    if size < n {
+        let at = layout::sizes_at(n) + 8 * size;
+        return bad_entry(
+            xs,
+            at,
+            big,
+            refusal::BAD_SIZE,
+            fault::SIZE,
+            size,
+            1,
+            limit::MAX_SIZE,
+        );
     }
     judge_last(xs, len, h, sizes)
 }

@@ -66,7 +66,8 @@ fn session_ok(s: Session, lists: &[u64]) -> bool
     }
     let counts = &lists[head::COUNTS..head::LISTS];
     let least = limits::least_count(s.head.format);
-    limits::all_within(counts, s.head.n as usize, least, s.planned as u64)
+    let n = s.head.n as usize;
+    limits::first_outside(counts, n, least, s.planned as u64) == n
 }
 
 pub fn session_refusal(s: Session, lists: &[u64], image: &[u8], table: &[i64]) -> u32

@@ -5,9 +5,9 @@ ghost use Prim.Native.Nat.{_<_, _≤_};
 ghost use lib.Dec.{eqb};
 ghost use lib.IntN.{pos};
 ghost use lib.ListN.{length, getD};
-ghost use Rattle.lists.specs.Below.{allBelow};
-ghost use Rattle.endian.specs.Signed.{within, sameZ};
-ghost use Rattle.format.specs.Limits.{formatRule, tasksRule, blocksizeRule, plannedRule, maxchunksRule, allDifferent, ranksRule, sizesRule};
+ghost use Rattle.lists.specs.Below.{firstNot};
+ghost use Rattle.endian.specs.Signed.{within};
+ghost use Rattle.format.specs.Limits.{maxSize, formatRule, tasksRule, blocksizeRule, plannedRule, maxchunksRule, isNew, ranksRule, rankRule, sizesRule};
 ghost use Rattle.format.specs.Meta2.{leastCount};
 use format::limit;
 
@@ -57,21 +57,22 @@ pub fn maxchunks_ok(maxchunks: u32) -> bool
     maxchunks <= limit::MAX_BLOCKS
 }
 
-pub fn all_within(values: &[u64], n: usize, lo: u64, hi: u64) -> bool
+// The first of n numbers that is not from lo to hi, and n where each is.
+pub fn first_outside(values: &[u64], n: usize, lo: u64, hi: u64) -> usize
     requires { ⌜ n ≤ length (now values) ⌝ }
-    ensures { λ r. ⌜ r ≡ allBelow n (λ i. within lo hi (pos (getD (now (values .entry)) i 0))) ⌝ }
+    ensures { λ r. ⌜ r ≡ firstNot n (λ i. within lo hi (pos (getD (now (values .entry)) i 0))) ⌝ }
 {
     let mut i = 0;
     while i < n {
         if values[i] < lo {
-            return false;
+            return i;
         }
         if hi < values[i] {
-            return false;
+            return i;
         }
         i += 1;
     }
-    true
+    n
 }
 
 fn and_differ(before: bool, x: u64, y: u64) -> bool
@@ -83,7 +84,7 @@ fn and_differ(before: bool, x: u64, y: u64) -> bool
 // Whether number i differs from each before it. It looks at all of them, which a machine does faster than to stop at the first.
 fn is_new(values: &[u64], i: usize) -> bool
     requires { ⌜ i < length (now values) ⌝ }
-    ensures { λ r. ⌜ r ≡ allBelow i (λ j. not (sameZ (pos (getD (now (values .entry)) j 0)) (pos (getD (now (values .entry)) i 0)))) ⌝ }
+    ensures { λ r. ⌜ r ≡ isNew (λ j. pos (getD (now (values .entry)) j 0)) i ⌝ }
 {
     let value = values[i];
     let mut new = true;
@@ -95,33 +96,47 @@ fn is_new(values: &[u64], i: usize) -> bool
     new
 }
 
-fn all_different(values: &[u64], n: usize) -> bool
+// The first of n numbers that is one of those before it, and n where all are different.
+fn first_repeat(values: &[u64], n: usize) -> usize
     requires { ⌜ n ≤ length (now values) ⌝ }
-    ensures { λ r. ⌜ r ≡ allDifferent n (λ i. pos (getD (now (values .entry)) i 0)) ⌝ }
+    ensures { λ r. ⌜ r ≡ firstNot n (isNew (λ i. pos (getD (now (values .entry)) i 0))) ⌝ }
 {
     let mut i = 0;
     while i < n {
         if !is_new(values, i) {
-            return false;
+            return i;
         }
         i += 1;
     }
-    true
+    n
+}
+
+// The first of n ranks that breaks its rule, and n where each keeps it.
+pub fn first_bad_rank(ranks: &[u64], n: usize) -> usize
+    requires { ⌜ n ≤ length (now ranks) ⌝ }
+    ensures { λ r. ⌜ r ≡ firstNot n (rankRule (λ i. pos (getD (now (ranks .entry)) i 0))) ⌝ }
+{
+    first_repeat(ranks, first_outside(ranks, n, 0, limit::MAX_RANK))
 }
 
 pub fn ranks_ok(ranks: &[u64], n: usize) -> bool
     requires { ⌜ n ≤ length (now ranks) ⌝ }
     ensures { λ r. ⌜ r ≡ ranksRule n (λ i. pos (getD (now (ranks .entry)) i 0)) ⌝ }
 {
-    if !all_within(ranks, n, 0, limit::MAX_RANK) {
-        return false;
-    }
-    all_different(ranks, n)
+    first_bad_rank(ranks, n) == n
+}
+
+// The first of n sizes that breaks its rule, and n where each keeps it.
+pub fn first_bad_size(sizes: &[u64], n: usize) -> usize
+    requires { ⌜ n ≤ length (now sizes) ⌝ }
+    ensures { λ r. ⌜ r ≡ firstNot n (λ i. within 1 maxSize (pos (getD (now (sizes .entry)) i 0))) ⌝ }
+{
+    first_outside(sizes, n, 1, limit::MAX_SIZE)
 }
 
 pub fn sizes_ok(sizes: &[u64], n: usize) -> bool
     requires { ⌜ n ≤ length (now sizes) ⌝ }
     ensures { λ r. ⌜ r ≡ sizesRule n (λ i. pos (getD (now (sizes .entry)) i 0)) ⌝ }
 {
-    all_within(sizes, n, 1, limit::MAX_SIZE)
+    first_bad_size(sizes, n) == n
 }

@@ -44,7 +44,7 @@ pub fn counts_ok(counts: &[u64], n: usize, format: u32, maxchunks: u32) -> bool
     requires { ⌜ n ≤ length (now counts) ⌝ }
     ensures { λ r. ⌜ r ≡ countsRule format n maxchunks (λ i. pos (getD (now (counts .entry)) i 0)) ⌝ }
 {
-    if !limits::all_within(counts, n, limits::least_count(format), maxchunks as u64) {
+    if limits::first_outside(counts, n, limits::least_count(format), maxchunks as u64) < n {
         return false;
     }
     greatest(counts, n) == maxchunks as u64
@@ -77,6 +77,14 @@ fn value_bad(bad: u64, count: u64, k: u64, holds: u64, value: i64) -> u64
     let unused = unused_mask(count, k);
     let most = holds & (unused ^ u64::MAX);
     over(bad, most, sign::bits64(value) ^ unused)
+}
+
+// Whether the value of chunk k + 1 keeps its rule.
+pub fn value_ok(count: u64, k: u64, holds: u64, value: i64) -> bool
+    requires { ⌜ (k < 2 ^ 63) × (holds < 2 ^ 63) ⌝ }
+    ensures { λ r. ⌜ r ≡ valueRule (ltb k count) holds value ⌝ }
+{
+    value_bad(0, count, k, holds, value) < TOP
 }
 
 // The cells of chunk k + 1, which stand from `at` on, one for each of n tasks, of which the first is task `first` + 1. What a chunk of each

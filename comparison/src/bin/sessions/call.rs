@@ -2,6 +2,7 @@
 //! an arm for each variant.
 
 use crate::plan::Plan;
+use lapurmihi::raw::Fault;
 
 /// A call with all that it is given beside its record and the lent memory; tasks and chunks are counted from 1.
 #[derive(Clone, Debug)]
@@ -19,9 +20,22 @@ pub enum Call {
     Prefix,
 }
 
-/// The refusal number or 0, and the numbers beside it, which are 0 where an entry has none or refuses.
+/// The refusal number or 0, and the numbers beside it, which are 0 where an entry has none or refuses; of a refused load, where it broke off.
 #[derive(Clone, Copy, Debug, PartialEq, Eq)]
 pub struct Answer {
     pub refusal: u32,
     pub numbers: [u64; 2],
+    pub fault: Fault,
+}
+
+impl Answer {
+    /// Of all but a refused load.
+    pub fn new(refusal: u32, numbers: [u64; 2]) -> Answer {
+        Answer { refusal, numbers, fault: Fault::default() }
+    }
+
+    /// Of a load.
+    pub fn load(refusal: u32, fault: Fault) -> Answer {
+        Answer { refusal, numbers: [0, 0], fault }
+    }
 }

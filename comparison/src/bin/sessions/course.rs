@@ -99,7 +99,7 @@ impl Course {
         let mut copy = self.memory.clone();
         let answer = counts.add(copy.call(&Call::Close)?);
         let length = self.plan.end(most_chunks(&copy.session));
-        let wanted = Answer { refusal: 0, numbers: [length, 0] };
+        let wanted = Answer::new(0, [length, 0]);
         same("close, the answer by the paper", answer, wanted)?;
         reload(&copy, length, &self.accepted, rng, counts)
             .map_err(|difference| format!("the closed container, {difference}"))?;

@@ -24,24 +24,43 @@ pub const TESTS: [Test<Damaged>; 15] = [
         it.set(Field::Blocksize, &[0, 256, 768, 8_388_608, -512], rng)
     })],
     &[("ntasks", 6, |it, _, rng| it.set(Field::Ntasks, &[0, 65, -1], rng))],
-    &[
-        ("nfiles", 7, |it, _, rng| it.set(Field::Nfiles, &[0, 2, -1], rng)),
-        ("filenumber", 7, |it, _, rng| it.set(Field::Filenumber, &[1, -1], rng)),
-    ],
+    FILES,
     &[("META1 cut", 3, |it, _, rng| {
         it.cut(1076 + 8 * it.container.n, 1088 + 16 * it.container.n, rng);
     })],
-    &[("rank", 8, |it, task, rng| {
-        let rank = spoilt_rank(&it.head.ranks[..it.container.n], task, rng);
-        it.container.put(Field::Rank(task), rank as i64);
-    })],
-    &[("size", 9, |it, task, rng| it.set(Field::Size(task), &[0, 1_073_741_825, -1], rng))],
+    RANKS,
+    SIZES,
     &[("not closed", 10, |it, _, _| it.container.put(Field::Start, 0))],
     &[("maxchunks", 11, |it, _, rng| it.set(Field::Maxchunks, &[-1, 33, 1 << 31], rng))],
     PLACE,
     &[("table", 18, |it, _, rng| it.cells = rng.pick(&[0, it.cells - 1]))],
     RULE,
 ];
+
+/// Test 7, of two fields.
+const FILES: Test<Damaged> = &[
+    ("nfiles", 7, |it, _, rng| it.set(Field::Nfiles, &[0, 2, -1], rng)),
+    ("filenumber", 7, |it, _, rng| it.set(Field::Filenumber, &[1, -1], rng)),
+];
+
+/// Test 8, of one rank, and of several that are out of range or come twice.
+const RANKS: Test<Damaged> = &[
+    ("rank", 8, |it, task, rng| {
+        let rank = spoilt_rank(&it.head.ranks[..it.container.n], task, rng);
+        it.container.put(Field::Rank(task), rank as i64);
+    }),
+    ("ranks", 8, |it, task, rng| {
+        let n = it.container.n;
+        for other in 0..n {
+            let from = rng.pick(&[other, 0, n - 1]);
+            it.container.put(Field::Rank(other), it.head.ranks[from] as i64);
+        }
+        it.set(Field::Rank(task), &[-1, 1 << 31, i64::MIN], rng);
+    }),
+];
+
+const SIZES: Test<Damaged> =
+    &[("size", 9, |it, task, rng| it.set(Field::Size(task), &[0, 1_073_741_825, -1], rng))];
 
 /// Test 12, which comes before test 18 and so before test 13 too.
 pub const PLACE: Test<Damaged> = &[
@@ -55,12 +74,22 @@ pub const PLACE: Test<Damaged> = &[
     }),
 ];
 
+/// The tests that look at several fields, of which two are broken at once.
+pub const WITHIN: [Test<Damaged>; 4] = [FILES, SIZES, PLACE, RULE];
+
 /// Test 13; a broken cell is not the last, which a cut may take.
 pub const RULE: Test<Damaged> = &[
     ("count", 13, |it, task, rng| {
         let under = if it.head.format == IDLE_FORMAT { 0 } else { -1 };
         let over = it.container.maxchunks as i64 + 1;
         it.set(Field::Count(task), &[under, -1, over, i64::MAX], rng);
+    }),
+    ("greatest count", 13, |it, _, _| {
+        let most = it.container.maxchunks as i64;
+        for field in (0..it.container.n).map(Field::Count) {
+            let count = it.container.get(field);
+            it.container.put(field, if count == most { most - 1 } else { count });
+        }
     }),
     ("cell", 13, |it, _, rng| {
         let n = it.container.n;
@@ -93,6 +122,18 @@ impl Damaged {
         let mut memory = Memory::new(image, Lent::all(before));
         let answer = memory.call(&Call::Load)?;
         Ok((answer.refusal, memory))
+    }
+
+    /// A copy with a few bytes of its metadata changed, which may be no fault at all.
+    pub fn flipped(&self, rng: &mut Rng) -> Damaged {
+        let mut copy = self.clone();
+        let (meta1, meta2) = (1088 + 16 * copy.container.n, copy.container.meta2);
+        let end = copy.container.bytes.len();
+        for _ in 0..1 + rng.below(3) {
+            let (start, bound) = rng.pick(&[(0, 36), (1076, meta1), (meta2, end)]);
+            copy.container.bytes[start + rng.below(bound - start)] ^= 1 << rng.below(8);
+        }
+        copy
     }
 
     /// One of the numbers for a field.

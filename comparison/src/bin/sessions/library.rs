@@ -16,7 +16,7 @@ pub fn answer(call: &Call, memory: &mut LibraryMemory) -> Answer {
         Call::Write { task } => plain(raw::write(session, image, table, task, buffer)),
         Call::Close => {
             let Closed { refusal, length } = raw::close(session, image, table);
-            Answer { refusal, numbers: [length, 0] }
+            Answer::new(refusal, [length, 0])
         }
         Call::Load => load(loaded, image, table),
         Call::Chunk { task, chunk } => placed(raw::chunk(loaded, image, table, task, chunk)),
@@ -30,7 +30,7 @@ pub fn answer(call: &Call, memory: &mut LibraryMemory) -> Answer {
 fn needs(plan: &Plan) -> Answer {
     let Plan { ranks, sizes, prefix, .. } = plan;
     let Needed { refusal, image, cells } = raw::needs(numbers(plan), ranks, sizes, prefix);
-    Answer { refusal, numbers: [image, cells] }
+    Answer::new(refusal, [image, cells])
 }
 
 fn open(plan: &Plan, session: &mut Session, image: &mut [u8], table: &mut [i64]) -> Answer {
@@ -43,7 +43,7 @@ fn open(plan: &Plan, session: &mut Session, image: &mut [u8], table: &mut [i64])
 fn load(loaded: &mut Loaded, image: &[u8], table: &mut [i64]) -> Answer {
     let answer = raw::load(image, table);
     *loaded = answer.loaded;
-    plain(answer.refusal)
+    Answer::load(answer.refusal, answer.fault)
 }
 
 /// What of a plan is neither a list nor the prefix.
@@ -53,13 +53,13 @@ fn numbers(plan: &Plan) -> raw::Plan {
 }
 
 fn plain(refusal: u32) -> Answer {
-    Answer { refusal, numbers: [0, 0] }
+    Answer::new(refusal, [0, 0])
 }
 
 fn placed(Part { refusal, start, length }: Part) -> Answer {
-    Answer { refusal, numbers: [start, length] }
+    Answer::new(refusal, [start, length])
 }
 
 fn counted(ByteCount { refusal, bytes }: ByteCount) -> Answer {
-    Answer { refusal, numbers: [bytes, 0] }
+    Answer::new(refusal, [bytes, 0])
 }

@@ -7,7 +7,11 @@ use crate::plan::Plan;
 use crate::reload::reload;
 use crate::same::{same, same_list};
 use crate::sizes::{self, Asked};
+use lapurmihi::raw::Fault;
 use reference::{Order, Rng, IDLE_FORMAT};
+
+/// The number by which a load names a value of META2.
+const VALUE: u32 = 15;
 
 /// Runs them all; the generator gives what stands in images and tables before.
 pub fn check(rng: &mut Rng) -> Result<(), String> {
@@ -77,7 +81,7 @@ fn idle_nothing(order: u32, rng: &mut Rng) -> Result<(), String> {
     let (answer, mut memory) = plan.open(rng)?;
     same("opening", answer.refusal, 0)?;
     let answer = memory.call(&Call::Close)?;
-    same("close", answer, Answer { refusal: 0, numbers: [2064, 0] })?;
+    same("close", answer, Answer::new(0, [2064, 0]))?;
     reload(&memory, 2064, &[vec![]], rng, &mut Counts::default())
 }
 
@@ -90,7 +94,7 @@ fn close(
     numbers: &[i64],
 ) -> Result<(), String> {
     let answer = memory.call(&Call::Close)?;
-    same("close", answer, Answer { refusal: 0, numbers: [length, 0] })?;
+    same("close", answer, Answer::new(0, [length, 0]))?;
     let (image, bytes) = (&memory.image.values, Order::from_number(order).ok_or("no such order")?);
     same("maxchunks", i64::from(bytes.int(image, 1108)), numbers[0])?;
     same("start_of_varheader", bytes.long(image, 1112), start as i64)?;
@@ -125,7 +129,7 @@ fn holds(order: u32, rng: &mut Rng) -> Result<(), String> {
     Ok(())
 }
 
-/// The one chunk of a session is full: one more in its cell is refused with 19, and one more in the closed container with 13.
+/// The one chunk of a session is full: one more in its cell is refused with 19, and one more in the closed container with 13, at its place.
 fn one_over(mut memory: Memory, order: u32, holds: i64) -> Result<(), String> {
     let mut over = memory.clone();
     over.table.values[0] = holds + 1;
@@ -134,7 +138,9 @@ fn one_over(mut memory: Memory, order: u32, holds: i64) -> Result<(), String> {
     let (mut image, bytes) = (memory.image, Order::from_number(order).ok_or("no such order")?);
     bytes.put_long(&mut image.values, length - 8, holds + 1);
     let mut closed = Memory::new(image, Lent::all(vec![0]));
-    same("load of one over", closed.call(&Call::Load)?.refusal, 13)
+    let (place, says) = (length as u64 - 8, holds + 1);
+    let value = Fault { place, says, least: 0, most: holds, field: VALUE, task: 1, chunk: 1 };
+    same("load of one over", closed.call(&Call::Load)?, Answer::load(13, value))
 }
 
 /// Size 1, K = 32: so many requests of 512 are accepted, which random sessions never reach, then one of 1 is refused with 16; all is read.

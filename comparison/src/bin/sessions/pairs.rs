@@ -25,11 +25,12 @@ impl Pairs {
     /// None has come yet.
     pub fn new() -> Pairs {
         let of_record = |(name, tests, ask): Entry| (Turns::new(name, tests), ask);
+        let load = Turns::new("load", &damaged::TESTS).and(damaged::PLACE, damaged::RULE);
         Pairs {
             chunk_size: Turns::new("chunk size", &sizes::TESTS),
             opening: Turns::new("opening", &drawn::TESTS),
             session: OF_SESSION.map(of_record),
-            load: Turns::new("load", &damaged::TESTS).and(damaged::PLACE, damaged::RULE),
+            load: damaged::WITHIN.into_iter().fold(load, |load, test| load.and(test, test)),
             loaded: OF_LOADED.map(of_record),
         }
     }
@@ -61,6 +62,8 @@ impl Pairs {
         self.load.run(&sound, rng, |damaged, rng| {
             Ok(damaged.load(random_cells(damaged.cells, rng))?.0)
         })?;
+        let flipped = sound.flipped(rng);
+        flipped.load(random_cells(flipped.cells, rng))?;
         let request = Request::of_loaded(loaded, rng);
         for (turns, ask) in &mut self.loaded {
             turns.run(&request, rng, |request, rng| request.make(*ask, rng))?;

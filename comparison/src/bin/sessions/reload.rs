@@ -34,7 +34,7 @@ pub fn reload(
     for (task, bytes) in (1..).zip(accepted) {
         memory.buffer = Lent::all(vec![0; bytes.len() + 1]);
         let answer = memory.call(&Call::Read { task, place: 0 })?;
-        let wanted = Answer { refusal: 0, numbers: [bytes.len() as u64, 0] };
+        let wanted = Answer::new(0, [bytes.len() as u64, 0]);
         same(&format!("bytes read of task {task}"), answer, wanted)?;
         let stream = &memory.buffer.values[..bytes.len()];
         same_list(&format!("the stream of task {task}"), stream, bytes)?;

@@ -3,6 +3,7 @@
 use crate::call::{Answer, Call};
 use crate::memory::Memory;
 use crate::plan::Plan;
+use comparison::fault_of;
 use reference::{Loaded, Session};
 
 /// Makes the call, and gives the answer.
@@ -23,11 +24,7 @@ pub fn answer(call: &Call, memory: &mut Memory) -> Answer {
             reference::write(session, image, table, task, buffer).map(|()| [0, 0])
         }
         Call::Close => reference::close(session, image, table).map(|length| [length, 0]),
-        Call::Load => {
-            let found = reference::load(image, table);
-            *loaded = found.clone().unwrap_or_else(|_| Loaded::refused());
-            found.map(|_| [0, 0])
-        }
+        Call::Load => return load(loaded, image, table),
         Call::Chunk { task, chunk } => {
             reference::chunk(loaded, image, table, task, chunk).map(|part| place(part, image))
         }
@@ -39,8 +36,8 @@ pub fn answer(call: &Call, memory: &mut Memory) -> Answer {
         Call::Prefix => reference::prefix(loaded, image, table).map(|part| place(part, image)),
     };
     match answer {
-        Ok(numbers) => Answer { refusal: 0, numbers },
-        Err(refusal) => Answer { refusal, numbers: [0, 0] },
+        Ok(numbers) => Answer::new(0, numbers),
+        Err(refusal) => Answer::new(refusal, [0, 0]),
     }
 }
 
@@ -56,6 +53,15 @@ fn open(plan: &Plan, image: &mut [u8], table: &mut [i64]) -> Result<Session, u32
     let Plan { order, version, patch, format, blocksize, k, .. } = *plan;
     let Plan { ranks, sizes, prefix, .. } = plan;
     reference::open(order, version, patch, format, blocksize, ranks, sizes, prefix, k, image, table)
+}
+
+fn load(loaded: &mut Loaded, image: &[u8], table: &mut [i64]) -> Answer {
+    let found = reference::load(image, table);
+    *loaded = found.clone().unwrap_or_else(|_| Loaded::refused());
+    match found {
+        Ok(_) => Answer::new(0, [0, 0]),
+        Err(fault) => Answer::load(fault.refusal, fault_of(&fault)),
+    }
 }
 
 /// Where a part of the image starts in it, and its length.

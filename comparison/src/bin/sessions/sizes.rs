@@ -54,7 +54,7 @@ impl Asked {
     pub fn answers(&self, refusal: u32, holds: u64) -> Result<Answer, String> {
         let (answer, Asked { size, blocksize }) = (self.make()?, self);
         let what = format!("what a chunk of size {size} and blocksize {blocksize} holds");
-        same(&what, answer, Answer { refusal, numbers: [holds, 0] })?;
+        same(&what, answer, Answer::new(refusal, [holds, 0]))?;
         Ok(answer)
     }
 }

@@ -1,4 +1,5 @@
-//! Holds the pairs of faults of one entry: two in one input, of tests that follow one another, so that the earlier test has to answer.
+//! Holds the pairs of faults of one entry: two in one input, of tests that follow one another, so that the earlier test has to answer, or of
+//! one test, so that it has to say where the first of them is.
 
 use crate::same::same;
 use reference::Rng;

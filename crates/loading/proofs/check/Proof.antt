@@ -1,13 +1,14 @@
 -- META1's fixed fields, the rest of META1, the table's length, then META2.
 use mathlib.Core.Path.{refl, _∙_}
 use mathlib.Core.List.{List}
-use Prim.Native.Nat.{ℕ}
+use Prim.Native.Nat.{ℕ, _*_, _^_, _≤_, _<_}
 use native.Mathlib.Nat.{mul-le-mul}
 use native.Mathlib.Omega.{arith}
 use borrow.Author.Needs.{needs}
 use lib.ListN.{length}
-use Rattle.meta1.specs.Judging.{HeadRead}
-use Rattle.loading.proofs.LoadAnswers.{head-read, refused-fixed, refused-rest, Found, found, sound, few, fits, refused-table, there, refused-meta2, accepted}
+use Rattle.format.specs.Limits.{maxTasks, maxBlocks}
+use Rattle.front.specs.Judging.{HeadRead}
+use Rattle.loading.proofs.LoadAnswers.{head-read, refusedBy, refused-fixed, refused-rest, Found, found, sound, few, fits, refused-table, there, refused-meta2, accepted}
 use Rattle.loading.proofs.check.Statement.{statement}
 use Rattle.loading.proofs.check.Tie as tie
 
@@ -29,6 +30,10 @@ room c = c .before .before .before
 
 abbrev judged : tie.After-judge → tie.After-meta2-length
 judged c = c .before .before .before
+
+-- an image has fewer bytes than a number can count
+short : (s : tie.Start) → length (s .args .image .now) < 2 ^ 64
+short s = search needs
 
 -- the head that the fixed fields gave
 read : (e : tie.Else1)
@@ -69,20 +74,31 @@ returns-2 c =
     let j = c .before .before .before .before in
     c .no-container2 .ensures ∙ refused-rest _ _ (read (fixed j)) (j .judge-lists .ensures .0) (c .before .if2 .taken)
 
-cast-if3 : tie.Need-cast-if3
-cast-if3 c = search needs
+cast-needed : tie.Need-cast-needed
+cast-needed c = search needs
 
-cast-if3-2 : tie.Need-cast-if3-2
-cast-if3-2 c = search needs
+cast-needed-2 : tie.Need-cast-needed-2
+cast-needed-2 c = search needs
 
-mul-if3 : tie.Need-mul-if3
-mul-if3 c = let f = known (c .before) in omega (arith, mul-le-mul (sound f .tasks) (few f))
+-- the table that is needed is small
+table-small : (e : tie.Else2)
+    → let j = rest e in
+    fixed j .before .before .judge-fixed .result .head .n * j .judge-lists .result .maxchunks ≤ maxTasks * maxBlocks
+table-small e = let f = known e in mul-le-mul (sound f .tasks) (few f)
+
+mul-needed : tie.Need-mul-needed
+mul-needed c = omega (arith, table-small (c .before))
+
+not-as-needed-requires : tie.Need-not-as-needed-requires
+not-as-needed-requires c κs = let l = table-small (c .before .before) in (omega arith, omega arith)
 
 no-container-requires-3 : tie.Need-no-container-requires-3
 no-container-requires-3 c κs = search needs
 
 returns-3 : tie.Need-returns-3
-returns-3 c = c .no-container3 .ensures ∙ refused-table (known (c .before .before .before)) (c .before .if3 .taken)
+returns-3 c =
+    let t = c .before .before in
+    c .no-container3 .ensures ∙ (λ i. refusedBy (c .before .not-as-needed .ensures i)) ∙ refused-table (known (t .before .before)) (t .if3 .taken)
 
 meta2-length-requires : tie.Need-meta2-length-requires
 meta2-length-requires c κs = let f = known (c .before .before) in (sound f .tasks, few f)
@@ -105,23 +121,23 @@ slice-aggregate-judge c = search needs
 judge-requires : tie.Need-judge-requires
 judge-requires c κs =
     let m = c .before .before in
-    there (known (room m)) (m .meta2-length .ensures)
+    there (known (room m)) (m .meta2-length .ensures) (short (start (fixed (rest (room m)) .before .before)))
 
 no-container-requires-4 : tie.Need-no-container-requires-4
 no-container-requires-4 c κs = search needs
 
 returns-4 : tie.Need-returns-4
 returns-4 c =
-    let j = c .before .before .before in
+    let j = c .before .before .before .before in
     let m = judged j in
     c .no-container4 .ensures
     ∙ refused-meta2 (known (room m)) (m .meta2-length .ensures) (m .before .if3 .left) (j .judge .ensures .0) (c .before .if4 .taken)
 
 returns-5 : tie.Need-returns-5
 returns-5 c =
-    let j = c .before .before in
+    let j = c .before .before .before .before in
     let m = judged j in
-    accepted (known (room m)) (m .meta2-length .ensures) (m .before .if3 .left) (j .judge .ensures .0) (c .if4 .left) (j .judge .ensures .1)
+    accepted (known (room m)) (m .meta2-length .ensures) (m .before .if3 .left) (j .judge .ensures .0) (c .before .if4 .left) (j .judge .ensures .1)
 
 pub check-spec : {M : Type 1} → statement M
 check-spec =
@@ -134,9 +150,10 @@ check-spec =
     judge-lists-requires
     no-container-requires-2
     returns-2
-    cast-if3
-    cast-if3-2
-    mul-if3
+    cast-needed
+    cast-needed-2
+    mul-needed
+    not-as-needed-requires
     no-container-requires-3
     returns-3
     meta2-length-requires

@@ -8,7 +8,9 @@ no-head-requires : tie.Need-no-head-requires
 no-head-requires c κs = search needs
 
 returns : tie.Need-returns
-returns c = λ i. record { loaded = loadedOf (c .no-head .ensures i) 0 1; lists = noLists; refusal = c .before .args .refusal }
+returns c =
+    let v = c .before .before .args .verdict in
+    (λ i. record { loaded = loadedOf (c .before .no-head .ensures i) 0 1; lists = noLists; refusal = v .refusal; fault = v .fault })
 
 pub no-container-spec : {M : Type 1} → statement M
 no-container-spec = tie.close (tie.spec no-head-requires returns)

@@ -35,11 +35,11 @@ add-get-i64 c = search needs
 get-i64-requires : tie.Need-get-i64-requires Inv-loop μ-loop
 get-i64-requires c κs = search needs
 
-mul-t11 : tie.Need-mul-t11 Inv-loop μ-loop
-mul-t11 c = search needs
+mul-value : tie.Need-mul-value Inv-loop μ-loop
+mul-value c = search needs
 
-slice-set-from-table : tie.Need-slice-set-from-table Inv-loop μ-loop
-slice-set-from-table c = search needs
+slice-set-from-value : tie.Need-slice-set-from-value Inv-loop μ-loop
+slice-set-from-value c = search needs
 
 add-j : tie.Need-add-j Inv-loop μ-loop
 add-j c = search needs
@@ -49,9 +49,9 @@ loop-less c = search needs
 
 loop-again : tie.Need-loop-again Inv-loop μ-loop
 loop-again c =
-    let a = c .before .before .before .before .args in
-    let l = c .before .before .loop in
-    let value = toZ-ofZ {w = w64} (sfits-of (c .get-i64 .ok)) ∙ c .get-i64 .ensures in (
+    let a = c .before .before .before .before .before .args in
+    let l = c .before .before .before .loop in
+    let value = toZ-ofZ {w = w64} (sfits-of (c .struct-told .given .0 .1)) ∙ (λ x. c .before .get-i64 .ensures x .value) in (
       search needs,
       search needs,
       rw (value, l .inv .2) (splice-more (a .table .now) (λ i. signedAt (a .big) 8 (a .part .now) (a .at + 8 * i)) (l .j) (omega arith)),
@@ -78,8 +78,8 @@ fill-spec =
     mul-get-i64
     add-get-i64
     get-i64-requires
-    mul-t11
-    slice-set-from-table
+    mul-value
+    slice-set-from-value
     add-j
     loop-less
     loop-again

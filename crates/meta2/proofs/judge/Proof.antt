@@ -32,7 +32,7 @@ sizes-same r =
 
 read : (r : tie.After-read-stripe)
     → let a = start (r .before) .args in
-    CountsRead (a .part .now) (a .h) (a .maxchunks) (r .read-stripe .last .0)
+    CountsRead (a .part .now) (a .at) (a .h) (a .maxchunks) (r .read-stripe .last .0)
 read r =
     let s = start (r .before) in
     let n = s .args .h .n in
@@ -42,6 +42,7 @@ read r =
         sound = rw (sizes-same r) (s .pre .sound);
         small = s .pre .small;
         whole = s .pre .whole;
+        ends = s .pre .ends;
       };
       counts-are = λ i l. rw (counted r) (count-counted (s .args .lists .now) n (count s) (s .pre .sound .tasks) (s .pre .as-many) i l);
     }

@@ -3,7 +3,7 @@ use mathlib.Core.Path.{_≡_}
 use mathlib.Core.Bool.{true}
 use native.Mathlib.Omega.{arith}
 use borrow.Author.Needs.{needs}
-use Rattle.lists.proofs.Below.{test-fails, test-holds}
+use Rattle.lists.proofs.Below.{test-fails, test-holds, all-first}
 use Rattle.format.specs.Record.{headSound}
 use Rattle.format.proofs.Passing.{head-tasks}
 use Rattle.format.proofs.Stripes.{length-counts}
@@ -44,14 +44,14 @@ part-counts-end c = omega (arith, start (c .before .before .before) .pre)
 least-count-requires : tie.Need-least-count-requires
 least-count-requires c κs = search needs
 
-cast-all-within : tie.Need-cast-all-within
-cast-all-within c = search needs
+cast-n : tie.Need-cast-n
+cast-n c = search needs
 
-cast-all-within-2 : tie.Need-cast-all-within-2
-cast-all-within-2 c = search needs
+cast-first-outside : tie.Need-cast-first-outside
+cast-first-outside c = search needs
 
-all-within-requires : tie.Need-all-within-requires
-all-within-requires c κs =
+first-outside-requires : tie.Need-first-outside-requires
+first-outside-requires c κs =
     let h = c .before .before .before .before .before .before in
     let s = start (h .before) in
     omega (arith, head-tasks _ _ (sound-head h), length-counts (s .args .lists .now) (s .pre))
@@ -61,7 +61,7 @@ unfolding sessionSound
 returns-3 c =
     let e = c .before .before .before .before .before in
     rw (sound-head (e .before .before), test-holds (e .before .planned-ok .ensures) (e .if2 .left), ← (c .before .before .before .least-count .ensures))
-    (c .all-within .ensures)
+    (rw (c .first-outside .ensures) (all-first _ _))
 
 pub session-ok-spec : {M : Type 1} → statement M
 session-ok-spec =
@@ -75,7 +75,7 @@ session-ok-spec =
     part-counts-start
     part-counts-end
     least-count-requires
-    cast-all-within
-    cast-all-within-2
-    all-within-requires
+    cast-n
+    cast-first-outside
+    first-outside-requires
     returns-3)

@@ -14,7 +14,10 @@ signed32-requires : tie.Need-signed32-requires
 signed32-requires c κs = search needs
 
 returns : tie.Need-returns
-returns c = toZ-ofZ {w = w32} (record { sfits = c .signed32 .ok }) ∙ c .signed32 .ensures ∙ ap (signed 31) (c .before .get-u32 .ensures)
+returns c =
+    let read = c .before in
+    let value = toZ-ofZ {w = w32} (record { sfits = c .signed32 .ok }) ∙ c .signed32 .ensures ∙ ap (signed 31) (λ i. read .get-u32 .ensures i .value) in
+    (λ i. record { value = value i; at = read .before .before .args .at })
 
 pub get-i32-spec : {M : Type 1} → statement M
 get-i32-spec = tie.close (tie.spec get-u32-requires signed32-requires returns)

@@ -14,7 +14,10 @@ signed64-requires : tie.Need-signed64-requires
 signed64-requires c κs = search needs
 
 returns : tie.Need-returns
-returns c = toZ-ofZ {w = w64} (record { sfits = c .signed64 .ok }) ∙ c .signed64 .ensures ∙ ap (signed 63) (c .before .get-u64 .ensures)
+returns c =
+    let read = c .before in
+    let value = toZ-ofZ {w = w64} (record { sfits = c .signed64 .ok }) ∙ c .signed64 .ensures ∙ ap (signed 63) (λ i. read .get-u64 .ensures i .value) in
+    (λ i. record { value = value i; at = read .before .before .args .at })
 
 pub get-i64-spec : {M : Type 1} → statement M
 get-i64-spec = tie.close (tie.spec get-u64-requires signed64-requires returns)

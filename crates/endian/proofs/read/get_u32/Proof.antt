@@ -37,13 +37,13 @@ returns : tie.Need-returns
 unfolding joinBelow
 returns c =
     let z = c .before .before .before .before .before .before .before in
-    numberAt-bytes true 3 (z .args .s .now) (z .args .at) (z .pre) (c .before .if1 .taken) (c .join4 .ensures)
+    (λ i. record { value = numberAt-bytes true 3 (z .args .s .now) (z .args .at) (z .pre) (c .before .if1 .taken) (c .join4 .ensures) i; at = z .args .at })
 
 returns-2 : tie.Need-returns-2
 unfolding joinBelow
 returns-2 c =
     let z = c .before .before .before .before .before .before .before in
-    numberAt-bytes false 3 (z .args .s .now) (z .args .at) (z .pre) (c .before .if1 .left) (c .join42 .ensures)
+    (λ i. record { value = numberAt-bytes false 3 (z .args .s .now) (z .args .at) (z .pre) (c .before .if1 .left) (c .join42 .ensures) i; at = z .args .at })
 
 pub get-u32-spec : {M : Type 1} → statement M
 get-u32-spec =

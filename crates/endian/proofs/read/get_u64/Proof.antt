@@ -61,13 +61,13 @@ returns : tie.Need-returns
 unfolding joinBelow
 returns c =
     let z = c .before .before .before .before .before .before .before .before .before .before .before in
-    numberAt-bytes true 7 (z .args .s .now) (z .args .at) (z .pre) (c .before .if1 .taken) (c .join8 .ensures)
+    (λ i. record { value = numberAt-bytes true 7 (z .args .s .now) (z .args .at) (z .pre) (c .before .if1 .taken) (c .join8 .ensures) i; at = z .args .at })
 
 returns-2 : tie.Need-returns-2
 unfolding joinBelow
 returns-2 c =
     let z = c .before .before .before .before .before .before .before .before .before .before .before in
-    numberAt-bytes false 7 (z .args .s .now) (z .args .at) (z .pre) (c .before .if1 .left) (c .join82 .ensures)
+    (λ i. record { value = numberAt-bytes false 7 (z .args .s .now) (z .args .at) (z .pre) (c .before .if1 .left) (c .join82 .ensures) i; at = z .args .at })
 
 pub get-u64-spec : {M : Type 1} → statement M
 get-u64-spec =

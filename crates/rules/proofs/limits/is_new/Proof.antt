@@ -11,6 +11,7 @@ use lib.ListN.{getD}
 use Rattle.lists.specs.Below.{allBelow}
 use Rattle.endian.specs.Signed.{sameZ}
 use Rattle.lists.proofs.Below.{all-none}
+use Rattle.format.specs.Limits.{isNew}
 use Rattle.rules.proofs.limits.is_new.Statement.{statement}
 use Rattle.rules.proofs.limits.is_new.Tie as tie
 
@@ -53,6 +54,7 @@ loop-again c =
     (search needs, rw add-one (c .and-differ .ensures ∙ ap (λ (b : Bool). b && differs) (l .inv .1)))
 
 returns : tie.Need-returns Inv-loop μ-loop
+unfolding isNew
 returns c =
     let a = c .before .before .before .before .args in
     let l = c .before .loop in
