@@ -3,7 +3,7 @@ pub const MARK: u32 = 1;
 
 pub const ORDER: u32 = 2;
 
-// The image's end, which comes before the bytes that are needed.
+// The image's end, which comes too early.
 pub const IMAGE: u32 = 3;
 
 pub const FORMAT: u32 = 4;
