@@ -45,6 +45,18 @@
  * is not looked at and not changed. Bytes of the image that no call stores, such as the unused room of a chunk, stay what they were, and
  * they are part of the container: a container that leaves the caller's hands wants an image that was cleared first.
  *
+ * Power cuts. A call stores into the image byte by byte, in the order that its comment names. Where the stores of a session's calls, and no
+ * others, reach a drive in that order and the power goes after any of them, a load of all that is found, with a table that is long enough,
+ * gives
+ *
+ *     before an opening's first store    what it gave before
+ *     while the opening runs             LAPUR_NO_MARK
+ *     during the session                 LAPUR_NOT_CLOSED
+ *     while closing                      LAPUR_NOT_CLOSED, LAPUR_BAD_META2_PLACE or the complete container
+ *
+ * An image that is memory, to be written to a file later or mapped from one, reaches the drive in no such order by itself: who wants it has
+ * to write and sync step by step. For a program's own tests, lapurmihi_cuts.h has calls that leave in the image what a cut leaves.
+ *
  * What is proved. The library has the functions that are only declared here, and each of them is proved: lapur_version,
  * lapur_chunk_size, lapur_needs, lapur_open, lapur_load, and those whose names end in _lent. lapur_write, lapur_close, lapur_chunk,
  * lapur_total, lapur_read, lapur_length and lapur_prefix are a few lines of C over the function of their name with _lent;
@@ -64,8 +76,8 @@ extern "C" {
 #endif
 
 /* The version of this header: 10,000 times its first number, 100 times its second, and its third. */
-#define LAPUR_VERSION 400
-#define LAPUR_VERSION_TEXT "0.4.0"
+#define LAPUR_VERSION 401
+#define LAPUR_VERSION_TEXT "0.4.1"
 
 /* The most tasks of a container, and the entries that a record has for them. */
 #define LAPUR_TASKS 64
@@ -428,6 +440,8 @@ struct lapur_needed lapur_needs(
  * Tests: 2, 4, 5, 6, 21, 8, 9, 20, 18.
  * Changes: the image from its start to chunk 1 of task 1, which becomes META1 and zeros; the first n * planned cells, which become -1, but
  * in format 4 the first n of them 0.
+ * Stores, in this order: 0 into the image's first byte, then all from its second byte on, and the s of the mark last. They are as many as
+ * there are bytes before chunk 1 of task 1, and one more.
  * Hands back: the record, with all counts 0, in format 4 all 1, and the closed mark unset. Refused: a record of zeros, marked closed.
  */
 struct lapur_opened lapur_open(
@@ -454,6 +468,7 @@ uint32_t lapur_write_lent(
  *
  * Tests: 17, 18, 19, 14, then an empty request is accepted, 15, 16.
  * Changes: those bytes of the image, the chunk's cell and the task's count in the record. Refused: nothing, and the session goes on.
+ * Stores, in this order: the bytes, from the first to the last.
  * Hands back: the refusal number or 0.
  */
 static inline uint32_t lapur_write(
@@ -477,6 +492,8 @@ struct lapur_closed_lent lapur_close_lent(
  *
  * Tests: 17, 18, 19.
  * Changes: in the image META2, and in META1 the two fields maxchunks and start_of_varheader; the record is marked closed.
+ * Stores, in this order: META2, then the 4 bytes of maxchunks, then the 8 bytes of start_of_varheader, each from its first byte to its last.
+ * They are 8 n (1 + maxchunks) + 12.
  * Hands back: the container's length. Refused: the length 0.
  */
 static inline struct lapur_closed lapur_close(

@@ -1,14 +1,15 @@
 /*
- * Holds the header's inline functions to the whole record that they are given: with any one of its numbers or entries spoilt a call is refused
+ * Holds the headers' inline functions to the whole record that they are given: with any one of its numbers or entries spoilt a call is refused
  * with 17 and changes nothing, and what is not judged comes through a session as it was, in both byte orders and both formats. What
- * lapur_chunk_size answers is held to what a write takes, and to its numbers at the bounds, and where a load breaks off to what was damaged. It is
- * C, and C++ too; tests/example runs it as both.
+ * lapur_chunk_size answers is held to what a write takes, and to its numbers at the bounds, and where a load breaks off to what was damaged. The
+ * calls within a budget of stores are held to the whole calls, and what they leave in the image to what a load says of it. It is C, and C++
+ * too; tests/example runs it as both.
  */
 #include <stdio.h>
 #include <stdlib.h>
 #include <string.h>
 
-#include "lapurmihi.h"
+#include "lapurmihi_cuts.h"
 
 enum { TASKS = 3, K = 2, CELLS = TASKS * K, BYTES = 16384 };
 
@@ -37,11 +38,16 @@ static int same_lists(const uint64_t *one, const uint64_t *other)
 }
 
 /* Field by field: the bytes between the fields of a record may be any. */
-static int same_session(struct session *one, struct session *other)
+static int same_but_image(struct session *one, struct session *other)
 {
     return memcmp(&one->record.numbers, &other->record.numbers, sizeof one->record.numbers) == 0
         && same_lists(lapur_session_lists(&one->record), lapur_session_lists(&other->record))
-        && memcmp(one->image, other->image, sizeof one->image) == 0 && memcmp(one->table, other->table, sizeof one->table) == 0;
+        && memcmp(one->table, other->table, sizeof one->table) == 0;
+}
+
+static int same_session(struct session *one, struct session *other)
+{
+    return same_but_image(one, other) && memcmp(one->image, other->image, sizeof one->image) == 0;
 }
 
 static uint32_t write_to(struct session *s, uint64_t task, size_t length)
@@ -49,9 +55,19 @@ static uint32_t write_to(struct session *s, uint64_t task, size_t length)
     return lapur_write(&s->record, s->image, BYTES, s->table, CELLS, task, line, length);
 }
 
+static uint32_t write_within(struct session *s, uint64_t task, size_t length, uint64_t budget)
+{
+    return lapur_write_within(&s->record, s->image, BYTES, s->table, CELLS, task, line, length, budget);
+}
+
 static struct lapur_closed closed(struct session *s)
 {
     return lapur_close(&s->record, s->image, BYTES, s->table, CELLS);
+}
+
+static struct lapur_closed closed_within(struct session *s, uint64_t budget)
+{
+    return lapur_close_within(&s->record, s->image, BYTES, s->table, CELLS, budget);
 }
 
 /* Spoils one thing that test 17 judges, the first of each list and the last; says whether there is such a case. */
@@ -145,6 +161,9 @@ static int refused_session(const struct session *good)
         hold(write_to(&spoilt, 1, 1) == LAPUR_BAD_RECORD, "a write over a spoilt record", which);
         struct lapur_closed answer = closed(&spoilt);
         hold(answer.refusal == LAPUR_BAD_RECORD && answer.length == 0, "a close of a spoilt record", which);
+        hold(write_within(&spoilt, 1, 1, 1) == LAPUR_BAD_RECORD, "a write within a budget over a spoilt record", which);
+        answer = closed_within(&spoilt, UINT64_MAX);
+        hold(answer.refusal == LAPUR_BAD_RECORD && answer.length == 0, "a close within a budget of a spoilt record", which);
         hold(same_session(&spoilt, &before), "what refused calls left", which);
     }
     return which;
@@ -293,6 +312,77 @@ static int cut_short(const struct session *closed)
     return count + 1;
 }
 
+/* The stores of an opening, of a write and of a close of the session that is filled here. */
+enum { OPENING = 1536 + 1, WRITE = LINE, CLOSING = 8 * TASKS * (1 + K) + 12 };
+
+/* What a load of all that a power cut leaves answers. */
+static uint32_t found(const struct session *s)
+{
+    int64_t table[CELLS];
+    return lapur_load(s->image, BYTES, table, CELLS).refusal;
+}
+
+/* An opening over nines that is cut after each of its stores. */
+static int cut_openings(struct lapur_plan plan)
+{
+    static struct session before, whole, cut;
+    memset(&before, 9, sizeof before);
+    whole = before;
+    whole.record = lapur_open(plan, ranks, TASKS, sizes, TASKS, line, LINE, whole.image, BYTES, whole.table, CELLS).session;
+    for (int budget = 0; budget <= OPENING + 1; budget++) {
+        cut = before;
+        struct lapur_opened opened =
+            lapur_open_within(plan, ranks, TASKS, sizes, TASKS, line, LINE, cut.image, BYTES, cut.table, CELLS, (uint64_t)budget);
+        cut.record = opened.session;
+        hold(opened.refusal == 0 && same_but_image(&cut, &whole), "the answer to a cut opening", budget);
+        hold(found(&cut) == (uint32_t)(budget < OPENING ? LAPUR_NO_MARK : LAPUR_NOT_CLOSED), "what is found of a cut opening", budget);
+        size_t end = budget < 1 ? 1 : budget < OPENING ? (size_t)budget : OPENING - 1;
+        hold(cut.image[0] == (budget < 1 ? 9 : budget < OPENING ? 0 : 's'), "the mark of a cut opening", budget);
+        hold(memcmp(cut.image + 1, whole.image + 1, end - 1) == 0, "what a cut opening stored", budget);
+        hold(memcmp(cut.image + end, before.image + end, BYTES - end) == 0, "what a cut opening did not store", budget);
+    }
+    return OPENING + 2;
+}
+
+/* A write to an open session that is cut after each of its stores; the line goes to chunk 1 of task 2. */
+static int cut_writes(const struct session *open)
+{
+    static struct session whole, cut;
+    const size_t place = 1536 + 512;
+    whole = *open;
+    hold(write_to(&whole, 2, WRITE) == 0, "a write that is not cut", 0);
+    for (int budget = 0; budget <= WRITE + 1; budget++) {
+        size_t end = place + (size_t)(budget < WRITE ? budget : WRITE);
+        cut = *open;
+        hold(write_within(&cut, 2, WRITE, (uint64_t)budget) == 0 && same_but_image(&cut, &whole), "the answer to a cut write", budget);
+        hold(found(&cut) == LAPUR_NOT_CLOSED, "what is found of a cut write", budget);
+        hold(memcmp(cut.image, whole.image, end) == 0, "what a cut write stored", budget);
+        hold(memcmp(cut.image + end, open->image + end, BYTES - end) == 0, "what a cut write did not store", budget);
+    }
+    return WRITE + 2;
+}
+
+/* A close that is cut after each of its stores, and then made again over what is found. */
+static int cut_closes(const struct session *open)
+{
+    static struct session whole, cut;
+    whole = *open;
+    const struct lapur_closed wanted = closed(&whole);
+    for (int budget = 0; budget <= CLOSING + 1; budget++) {
+        cut = *open;
+        struct lapur_closed answer = closed_within(&cut, (uint64_t)budget);
+        hold(answer.refusal == 0 && answer.length == wanted.length && same_but_image(&cut, &whole), "the answer to a cut close", budget);
+        uint32_t refusal = found(&cut);
+        hold(refusal == 0 || refusal == LAPUR_NOT_CLOSED || refusal == LAPUR_BAD_META2_PLACE, "what is found of a cut close", budget);
+        hold((refusal == 0) == same_session(&cut, &whole), "a container that is found", budget);
+        cut.record = open->record;
+        answer = closed(&cut);
+        hold(answer.length == wanted.length && same_session(&cut, &whole), "a cut close, made again", budget);
+    }
+    hold(closed_within(&whole, UINT64_MAX).refusal == LAPUR_BAD_RECORD, "a close of a closed session", 0);
+    return CLOSING + 2;
+}
+
 /* 4 is judged right after 2, before 5. */
 static int formats(void)
 {
@@ -363,17 +453,19 @@ int main(void)
 {
     static struct session session;
     static struct load load;
-    int spoilt = 0, faults = 0;
+    int spoilt = 0, faults = 0, cuts = 0;
     for (uint32_t order = LAPUR_LITTLE; order <= LAPUR_BIG; order++)
         for (uint32_t format = LAPUR_FORMAT_3; format <= LAPUR_FORMAT_4; format++) {
             fill(&session, order, format);
             spoilt += refused_session(&session);
+            const struct lapur_plan plan = {order, -3, 77, format, 512, K};
+            cuts += cut_openings(plan) + cut_writes(&session) + cut_closes(&session);
             close_it(&session);
             read_it(&load, &session);
             faults += broken(&session) + cut_short(&session);
             spoilt += refused_reads(&load);
         }
-    printf("%d spoilt records, %d faults of loads, %d formats at opening, %d chunk sizes and %d at bounds\n", spoilt, faults, formats(),
-        chunk_sizes(), bounds());
+    printf("%d spoilt records, %d faults of loads, %d power cuts, %d formats at opening, %d chunk sizes and %d at bounds\n", spoilt, faults,
+        cuts, formats(), chunk_sizes(), bounds());
     return 0;
 }

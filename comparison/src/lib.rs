@@ -1,4 +1,8 @@
-//! Holds the reference's records as the library lays them out, so that the two can be compared.
+//! Holds the reference's records as the library lays them out, so that the two can be compared, and the comparisons themselves.
+
+mod same;
+
+pub use same::{same, same_list, same_session};
 
 use lapurmihi::raw::{Fault, Loaded, LoadedNumbers, Session, SessionNumbers};
 

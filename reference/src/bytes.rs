@@ -48,20 +48,30 @@ impl Order {
         bytes.chunks_exact(8).map(move |field| self.long(field, 0))
     }
 
+    /// The bytes of a 4-byte number.
+    pub fn int_bytes(self, value: i32) -> [u8; 4] {
+        match self {
+            Order::Little => value.to_le_bytes(),
+            Order::Big => value.to_be_bytes(),
+        }
+    }
+
+    /// The bytes of an 8-byte number.
+    pub fn long_bytes(self, value: i64) -> [u8; 8] {
+        match self {
+            Order::Little => value.to_le_bytes(),
+            Order::Big => value.to_be_bytes(),
+        }
+    }
+
     /// Puts a 4-byte number at `at`; does nothing where the bytes do not reach.
     pub fn put_int(self, bytes: &mut [u8], at: usize, value: i32) {
-        match self {
-            Order::Little => put(bytes, at, value.to_le_bytes()),
-            Order::Big => put(bytes, at, value.to_be_bytes()),
-        }
+        put(bytes, at, self.int_bytes(value));
     }
 
     /// Puts an 8-byte number at `at`; does nothing where the bytes do not reach.
     pub fn put_long(self, bytes: &mut [u8], at: usize, value: i64) {
-        match self {
-            Order::Little => put(bytes, at, value.to_le_bytes()),
-            Order::Big => put(bytes, at, value.to_be_bytes()),
-        }
+        put(bytes, at, self.long_bytes(value));
     }
 }
 

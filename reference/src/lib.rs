@@ -1,8 +1,9 @@
 //! Holds the second implementation of document 01, as document 02 changes it: opening, filling, closing, loading and reading one container;
-//! and for tests a generator and containers whose fields are set by name.
+//! what a power cut leaves of the first three; and for tests a generator and containers whose fields are set by name.
 
 mod bytes;
 mod container;
+mod drive;
 mod fault;
 mod generator;
 mod layout;
@@ -22,7 +23,7 @@ pub use layout::{capacity, chunk_size, meta1_end, Layout, IDLE_FORMAT, MARK};
 pub use load::load;
 pub use read::{chunk, length, prefix, read, total};
 pub use record::{Head, Loaded, Session};
-pub use session::{close, open, write};
+pub use session::{close, close_within, open, open_within, write, write_within};
 pub use tally::{Answer, Tally};
 
 /// Passes if the rule holds, else refuses with the paper's number.

@@ -1,11 +1,16 @@
-//! Holds a session: opening, writing and closing.
+//! Holds a session: opening, writing and closing, each also within a budget of byte stores, after which the power goes. A budget is of the
+//! image's stores alone: answer, record and table of a call that is cut are those of the whole call.
 
 use crate::demand;
+use crate::drive::Drive;
 use crate::layout::{
-    blocksize_ok, format_ok, maxchunks_at, ranks_ok, sizes_at, sizes_ok, start_at,
+    blocksize_ok, format_ok, maxchunks_at, meta1_end, ranks_ok, sizes_at, sizes_ok, start_at,
 };
 use crate::layout::{IDLE_FORMAT, MARK, MAX_CHUNKS, MAX_PREFIX, MAX_TASKS, RANKS_AT};
 use crate::{Head, Order, Session};
+
+/// More byte stores than any call makes.
+const ENOUGH: u64 = u64::MAX;
 
 /// Opens a session; tests in the order 2, 4, 5, 6, 21, 8, 9, 20, 18.
 #[allow(clippy::too_many_arguments)]
@@ -21,6 +26,27 @@ pub fn open(
     k: u32,
     image: &mut [u8],
     table: &mut [i64],
+) -> Result<Session, u32> {
+    open_within(
+        order, version, patch, format, blocksize, ranks, sizes, prefix, k, image, table, ENOUGH,
+    )
+}
+
+/// Opens a session, of whose byte stores just the first `budget` reach the image.
+#[allow(clippy::too_many_arguments)]
+pub fn open_within(
+    order: u32,
+    version: i32,
+    patch: i32,
+    format: u32,
+    blocksize: u32,
+    ranks: &[u64],
+    sizes: &[u64],
+    prefix: &[u8],
+    k: u32,
+    image: &mut [u8],
+    table: &mut [i64],
+    budget: u64,
 ) -> Result<Session, u32> {
     let bytes = Order::from_number(order).ok_or(2u32)?;
     let n = sizes.len();
@@ -40,30 +66,45 @@ pub fn open(
     demand(image.len() as u64 >= head.layout().end(u64::from(k)), 18)?;
     let cells = table.get_mut(..sizes.len() * k as usize).ok_or(18u32)?;
 
-    cells.fill(-1);
-    if format == IDLE_FORMAT {
-        head.counts[..sizes.len()].fill(1);
-        cells[..sizes.len()].fill(0);
-    }
-    put_meta1(&head, bytes, prefix, image);
+    begin(&mut head, cells);
+    put_meta1(&meta1(&head, bytes, prefix), head.layout().d, Drive::new(image, budget));
     Ok(Session { head, k })
 }
 
-/// Writes META1 of a session just opened, and zeros up to D.
-fn put_meta1(head: &Head, order: Order, prefix: &[u8], image: &mut [u8]) {
+/// The counts and the cells of a session in which nothing is written.
+fn begin(head: &mut Head, cells: &mut [i64]) {
     let n = head.tasks();
-    image[..head.layout().d as usize].fill(0);
-    image[..4].copy_from_slice(&MARK);
+    cells.fill(-1);
+    if head.format == IDLE_FORMAT {
+        head.counts[..n].fill(1);
+        cells[..n].fill(0);
+    }
+}
+
+/// META1 of a session just opened.
+fn meta1(head: &Head, order: Order, prefix: &[u8]) -> Vec<u8> {
+    let n = head.tasks();
+    let mut bytes = vec![0; meta1_end(n as u64) as usize];
+    bytes[..4].copy_from_slice(&MARK);
     let (format, blocksize) = (head.format as i32, head.blocksize as i32);
     let ints = [1, head.version, head.patch, format, blocksize, n as i32, 1, 0];
     for (i, value) in ints.into_iter().enumerate() {
-        order.put_int(image, 4 + 4 * i, value);
+        order.put_int(&mut bytes, 4 + 4 * i, value);
     }
-    image[52..52 + prefix.len()].copy_from_slice(prefix);
+    bytes[52..52 + prefix.len()].copy_from_slice(prefix);
     for i in 0..n {
-        order.put_long(image, RANKS_AT + 8 * i, head.ranks[i] as i64);
-        order.put_long(image, sizes_at(n) + 8 * i, head.sizes[i] as i64);
+        order.put_long(&mut bytes, RANKS_AT + 8 * i, head.ranks[i] as i64);
+        order.put_long(&mut bytes, sizes_at(n) + 8 * i, head.sizes[i] as i64);
     }
+    bytes
+}
+
+/// Stores META1 and zeros up to D under a mark that is broken as long as this lasts: its first byte is 0 from the first store to the last.
+fn put_meta1(meta1: &[u8], d: u64, mut drive: Drive) {
+    drive.put(0, &[0]);
+    drive.put(1, &meta1[1..]);
+    drive.clear(meta1.len(), d as usize);
+    drive.put(0, &meta1[..1]);
 }
 
 /// Writes the bytes of one request; tests in the order 17, 18, 19, 14, empty accepted, 15, 16.
@@ -73,6 +114,18 @@ pub fn write(
     table: &mut [i64],
     task: u64,
     bytes: &[u8],
+) -> Result<(), u32> {
+    write_within(session, image, table, task, bytes, ENOUGH)
+}
+
+/// Writes the bytes of one request in their order, of which just the first `budget` reach the image.
+pub fn write_within(
+    session: &mut Session,
+    image: &mut [u8],
+    table: &mut [i64],
+    task: u64,
+    bytes: &[u8],
+    budget: u64,
 ) -> Result<(), u32> {
     session.judge(image, table)?;
     let task = session.head.task(task)?;
@@ -84,7 +137,7 @@ pub fn write(
 
     let (chunk, used) = room(session, table, task, length).ok_or(16u32)?;
     let start = (session.head.layout().chunk(task, chunk) + used) as usize;
-    image[start..start + bytes.len()].copy_from_slice(bytes);
+    Drive::new(image, budget).put(start, bytes);
     table[chunk as usize * session.head.tasks() + task] = (used + length) as i64;
     session.head.counts[task] = chunk + 1;
     Ok(())
@@ -104,6 +157,16 @@ fn room(session: &Session, table: &[i64], task: usize, length: u64) -> Option<(u
 
 /// Closes a session and reports the container's length; tests in the order 17, 18, 19.
 pub fn close(session: &mut Session, image: &mut [u8], table: &[i64]) -> Result<u64, u32> {
+    close_within(session, image, table, ENOUGH)
+}
+
+/// Closes a session: META2, then maxchunks, then start_of_varheader, of whose byte stores just the first `budget` reach the image.
+pub fn close_within(
+    session: &mut Session,
+    image: &mut [u8],
+    table: &[i64],
+    budget: u64,
+) -> Result<u64, u32> {
     session.judge(image, table)?;
     let head = &session.head;
     let order = Order::from_number(head.order).ok_or(17u32)?;
@@ -112,11 +175,13 @@ pub fn close(session: &mut Session, image: &mut [u8], table: &[i64]) -> Result<u
 
     let counts = head.counts[..n].iter().map(|&count| count as i64);
     let values = table[..n * maxchunks as usize].iter().copied();
-    for (i, value) in counts.chain(values).enumerate() {
-        order.put_long(image, start as usize + 8 * i, value);
-    }
-    order.put_int(image, maxchunks_at(n), maxchunks as i32);
-    order.put_long(image, start_at(n), start as i64);
+    let mut meta2 = Vec::with_capacity((length - start) as usize);
+    counts.chain(values).for_each(|value| meta2.extend_from_slice(&order.long_bytes(value)));
+
+    let mut drive = Drive::new(image, budget);
+    drive.put(start as usize, &meta2);
+    drive.put(maxchunks_at(n), &order.int_bytes(maxchunks as i32));
+    drive.put(start_at(n), &order.long_bytes(start as i64));
     session.head.closed = 1;
     Ok(length)
 }

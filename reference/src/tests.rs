@@ -1,5 +1,6 @@
-//! Holds the papers' numbers to check by, tests of hostile records, and tests of where a load breaks off.
+//! Holds the papers' numbers to check by, tests of hostile records, of power cuts, and of where a load breaks off.
 
+mod cuts;
 mod faults;
 
 use crate::*;
@@ -36,10 +37,15 @@ fn refusal(image: &[u8], table: &mut [i64]) -> Option<u32> {
     load(image, table).err().map(|fault| fault.refusal)
 }
 
+/// P12's requests, all to task 1.
+fn p12_requests() -> [Vec<u8>; 3] {
+    [vec![7; 300], vec![8; 200], vec![9; 1]]
+}
+
 fn p12(order: u32) -> (Vec<u8>, u64) {
     let (mut session, mut image, mut table) = session(order, &SIZES, 3);
-    for (length, byte) in [(300, 7), (200, 8), (1, 9)] {
-        assert_eq!(write(&mut session, &mut image, &mut table, 1, &vec![byte; length]), Ok(()));
+    for bytes in p12_requests() {
+        assert_eq!(write(&mut session, &mut image, &mut table, 1, &bytes), Ok(()));
     }
     assert_eq!(image[2035..2038], [8, 9, 0]);
     let length = close(&mut session, &mut image, &table).expect("an open session");

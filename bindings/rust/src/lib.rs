@@ -6,6 +6,10 @@
 //! and a container over lent memory, allocate nothing but a [`Plan`]'s lists and prefix; [`Container::open`] and its kin own their table and
 //! what cannot be mapped.
 //!
+//! The library stores into an image byte by byte, in an order that lets a power cut be told from a container. For a program's own tests the
+//! feature `cuts`, which is off by default and links a second static library, has `Plan::open_within`, `Session::write_within` and
+//! `Session::close_within`: they leave in an image what a cut after so many stores would leave.
+//!
 //! ```
 //! use lapurmihi::{Container, Plan, CELLS};
 //!

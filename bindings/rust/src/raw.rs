@@ -3,6 +3,12 @@
 //! Every function takes any values at all: the library tests what it is given, and answers with a refusal number or with 0. Tasks and
 //! chunks are counted from 1. The types of the crate's root are the pleasant way to the same functions.
 
+#[cfg(feature = "cuts")]
+mod cuts;
+
+#[cfg(feature = "cuts")]
+pub use cuts::{close_within, open_within, write_within};
+
 use std::ptr;
 
 /// The most tasks of a container, and the entries that a record has for them.
@@ -142,6 +148,14 @@ struct ClosedLent {
     refusal: u32,
     numbers: SessionNumbers,
     length: u64,
+}
+
+impl ClosedLent {
+    /// The answer without the numbers, which the record gets.
+    fn noted_in(self, session: &mut Session) -> Closed {
+        session.numbers = self.numbers;
+        Closed { refusal: self.refusal, length: self.length }
+    }
 }
 
 /// Where a refused load broke off: the first offending field. All of it is 0 where the load was accepted.
@@ -417,8 +431,7 @@ pub fn close(session: &mut Session, image: &mut [u8], table: &[i64]) -> Closed {
             table.len(),
         )
     };
-    session.numbers = answer.numbers;
-    Closed { refusal: answer.refusal, length: answer.length }
+    answer.noted_in(session)
 }
 
 /// Checks a container, and puts its bytes written to each chunk into the table; refused, says where it broke off.

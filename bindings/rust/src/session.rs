@@ -1,5 +1,8 @@
 //! Holds what a session is opened with, what it needs, and the session over the memory lent to it.
 
+#[cfg(feature = "cuts")]
+mod cuts;
+
 use crate::refusal::accepted;
 use crate::{raw, Refusal};
 use std::fmt;
@@ -162,8 +165,7 @@ impl Plan {
     ) -> Result<Session<'a>, Refusal> {
         let Plan { ranks, sizes, prefix, .. } = self;
         let opened = raw::open(self.numbers(), ranks, sizes, prefix, image, table);
-        accepted(opened.refusal)?;
-        Ok(Session { record: opened.session, image, table, filled: [0; raw::TASKS] })
+        Session::over(opened, image, table)
     }
 
     /// What of it is neither a list nor the prefix.
@@ -174,7 +176,7 @@ impl Plan {
     }
 }
 
-/// An open session over lent memory. Dropped without [`close`](Session::close), it leaves no container in the image.
+/// An open session over lent memory. Dropped without a [`close`](Session::close), it leaves no container in the image.
 ///
 /// ```
 /// use lapurmihi::{Plan, Refusal};
@@ -202,10 +204,32 @@ pub struct Session<'a> {
 }
 
 impl<'a> Session<'a> {
+    /// The session of an accepted opening.
+    fn over(
+        opened: raw::Opened,
+        image: &'a mut [u8],
+        table: &'a mut [i64],
+    ) -> Result<Session<'a>, Refusal> {
+        accepted(opened.refusal)?;
+        Ok(Session { record: opened.session, image, table, filled: [0; raw::TASKS] })
+    }
+
     /// Writes bytes to a task, counted from 1: behind its last ones if they fit in its chunk in use, else to its next chunk.
     pub fn write(&mut self, task: u64, bytes: &[u8]) -> Result<(), Refusal> {
         let before = self.chunks_begun(task);
-        accepted(raw::write(&mut self.record, self.image, self.table, task, bytes))?;
+        let refusal = raw::write(&mut self.record, self.image, self.table, task, bytes);
+        self.noted(refusal, task, bytes, before)
+    }
+
+    /// Counts the bytes of an accepted write to a task that had begun so many chunks before it.
+    fn noted(
+        &mut self,
+        refusal: u32,
+        task: u64,
+        bytes: &[u8],
+        before: Result<u64, Refusal>,
+    ) -> Result<(), Refusal> {
+        accepted(refusal)?;
         let index = self.index(task)?;
         if self.chunks_begun(task) != before {
             self.filled[index] = 0;

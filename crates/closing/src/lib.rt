@@ -1,4 +1,4 @@
-// Closing a session: META2 and META1's last two fields stored, the session marked closed, and the container's length.
+// Closing a session: META2, then META1's last two fields stored, the session marked closed, and the container's length.
 ghost use mathlib.Core.Path.{_≡_};
 ghost use Prim.Native.Nat.{_≤_};
 ghost use lib.ListN.{length};
@@ -8,11 +8,13 @@ ghost use Rattle.format.specs.Record.{allLists, sizeOf, endAt};
 ghost use Rattle.format.specs.declared.session.Session.{Session};
 ghost use Rattle.format.specs.declared.session.Closed.{Closed};
 ghost use Rattle.format.specs.Session.{stateOf};
-ghost use Rattle.format.specs.Close.{maxchunksOf, finished, closeAnswer, closeImage};
+ghost use Rattle.lists.specs.Stores.{found};
+ghost use Rattle.format.specs.Close.{maxchunksOf, closingStores, closeAnswer, closeImage, closeFound};
 ghost use Rattle.format.specs.Passed.{Meta2Fits};
 use format::head;
 use format::head::Head;
 use format::head::LISTS;
+use format::limit;
 use format::session::Closed;
 use format::session::Session;
 
@@ -25,9 +27,16 @@ fn most_chunks(lists: &[u64], n: u32) -> u64
 }
 
 // META2, then the fields that say how long it is and where: the end of META2.
-fn finish(h: Head, lists: &[u64], maxchunks: u32, image: &mut [u8], table: &[i64]) -> u64
+fn finish(
+    h: Head,
+    lists: &[u64],
+    maxchunks: u32,
+    image: &mut [u8],
+    table: &[i64],
+    budget: u64,
+) -> u64
     requires { ⌜ Meta2Fits h (now lists) maxchunks (now image) (now table) ⌝ }
-    ensures { λ _. ⌜ now (image .exit) ≡ finished h (now (lists .entry)) maxchunks (now (table .entry)) (now (image .entry)) ⌝ }
+    ensures { λ _. ⌜ now (image .exit) ≡ found budget (now (image .entry)) (closingStores h (now (lists .entry)) maxchunks (now (table .entry))) ⌝ }
     ensures { λ r. ⌜ r ≡ endAt h (sizeOf (now (lists .entry))) maxchunks ⌝ }
 {
     let big = h.order == 1;
@@ -38,15 +47,31 @@ fn finish(h: Head, lists: &[u64], maxchunks: u32, image: &mut [u8], table: &[i64
         maxchunks,
     );
     let counts = &lists[head::COUNTS..LISTS];
-    emit::meta2(image, start as usize, counts, table, h.n, maxchunks, big);
-    emit::last_fields(image, h.n, big, maxchunks, start);
+    let left = emit::meta2(
+        image,
+        start as usize,
+        counts,
+        table,
+        h.n,
+        maxchunks,
+        big,
+        budget,
+    );
+    emit::last_fields(image, h.n, big, maxchunks, start, left);
     start + layout::meta2_length(h.n, maxchunks)
 }
 
-// Closes a session: tests 17, 18 and 19. The numbers come back marked closed, or refused, as given.
-pub fn close(s: Session, lists: &[u64; LISTS], image: &mut [u8], table: &[i64]) -> Closed
+// Closes a session: tests 17, 18 and 19. The numbers come back marked closed, or refused, as given. Of the byte stores into the image only the first
+// `budget` are made.
+pub fn close_within(
+    s: Session,
+    lists: &[u64; LISTS],
+    image: &mut [u8],
+    table: &[i64],
+    budget: u64,
+) -> Closed
     ensures { λ r. ⌜ r ≡ closeAnswer (stateOf s (now (lists .entry)) (now (image .entry)) (now (table .entry))) ⌝ }
-    ensures { λ _. ⌜ now (image .exit) ≡ closeImage (stateOf s (now (lists .entry)) (now (image .entry)) (now (table .entry))) ⌝ }
+    ensures { λ _. ⌜ now (image .exit) ≡ closeFound (stateOf s (now (lists .entry)) (now (image .entry)) (now (table .entry))) budget ⌝ }
 {
     let refusal = records::session_refusal(s, lists, image, table);
     if refusal != 0 {
@@ -57,7 +82,7 @@ pub fn close(s: Session, lists: &[u64; LISTS], image: &mut [u8], table: &[i64]) 
         };
     }
     let maxchunks = most_chunks(lists, s.head.n) as u32;
-    let length = finish(s.head, lists, maxchunks, image, table);
+    let length = finish(s.head, lists, maxchunks, image, table, budget);
     let mut session = s;
     session.closed = 1;
     Closed {
@@ -65,4 +90,12 @@ pub fn close(s: Session, lists: &[u64; LISTS], image: &mut [u8], table: &[i64]) 
         session,
         length,
     }
+}
+
+// The same, with all of its stores.
+pub fn close(s: Session, lists: &[u64; LISTS], image: &mut [u8], table: &[i64]) -> Closed
+    ensures { λ r. ⌜ r ≡ closeAnswer (stateOf s (now (lists .entry)) (now (image .entry)) (now (table .entry))) ⌝ }
+    ensures { λ _. ⌜ now (image .exit) ≡ closeImage (stateOf s (now (lists .entry)) (now (image .entry)) (now (table .entry))) ⌝ }
+{
+    close_within(s, lists, image, table, limit::ENDLESS)
 }

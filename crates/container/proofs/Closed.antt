@@ -3,27 +3,25 @@ use mathlib.Core.Path.{_≡_, _∙_}
 use mathlib.Core.List.{List}
 use Prim.Native.Nat.{ℕ, _^_, _≤_, _<_}
 use native.Mathlib.Omega.{arith}
-use lib.ListN.{take}
+use lib.ListN.{length}
 use lib.Signed.{mag}
 use Rattle.format.specs.Limits.{maxBlocks}
 use Rattle.format.specs.Layout.{meta1End}
 use Rattle.format.proofs.Chunks.{meta2End-small}
-use Rattle.format.proofs.Power.{blocksize-facts}
-use Rattle.format.specs.Meta1.{meta1}
 use Rattle.format.specs.Meta2.{valueIndex}
-use Rattle.format.specs.Record.{entry, cell, countOf, isBig}
+use Rattle.format.specs.Record.{cell, countOf, isBig}
 use Rattle.format.proofs.Rules.{valueIndex-lt}
 use Rattle.format.proofs.Stored
 use Rattle.format.specs.Session.{State}
 use Rattle.format.specs.Open.{Opening, tasks, openHead}
 use Rattle.format.specs.Close
 use Rattle.format.proofs.Opening.{plan-sound}
-use Rattle.format.specs.Container.{InBounds, HasMeta1, HasMeta2, valueOf}
+use Rattle.format.specs.Container.{HasMeta1, HasMeta2, valueOf}
 use Rattle.container.specs.Start.{VersionsFit}
 use Rattle.container.specs.WrittenBack.{contentsOf}
-use Rattle.format.proofs.Formats.{format-known, format-small, least-idle}
-use Rattle.format.proofs.InBounds.{in-bounds}
-use Rattle.container.proofs.ClosedParts.{Closable, closedAs, startIn, valueIn, closing, apart, end-after, closed-most, closed-least, closed-reached, in-range, not-used, used-small, closed-long, meta1-there, part-there}
+use Rattle.format.proofs.Formats.{least-idle}
+use Rattle.format.proofs.Fronts.{front-says}
+use Rattle.container.proofs.ClosedParts.{Closable, closedAs, valueIn, closing, apart, end-after, closed-most, closed-least, closed-reached, in-range, not-used, used-small, closed-long, closed-front, closed-fields, part-there}
 
 module _ (o : Opening) (st : State) (c : Closable o st) (tail : List ℕ) where
   abbrev m : ℕ
@@ -32,40 +30,33 @@ module _ (o : Opening) (st : State) (c : Closable o st) (tail : List ℕ) where
   few : m ≤ maxBlocks
   few = closing o st c .few
 
-  stored : take (meta1End (tasks o)) (closedAs st tail) ≡ meta1 (openHead o) (entry (o .ranks)) (entry (o .sizes)) (o .prefix) m (startIn o st)
-  stored = meta1-there o st c tail
-
-  bounds : InBounds (o .plan .blocksize) (tasks o) (entry (o .ranks)) (entry (o .sizes))
-  bounds = in-bounds (c .plan .block) (c .plan .task-rule) (c .plan .ranked) (c .plan .sized)
-
   pub has-meta1 : VersionsFit o → HasMeta1 (closedAs st tail) (contentsOf o st)
   unfolding openHead
   has-meta1 fit =
-      let sound = plan-sound o (c .plan) in
-      let small = meta2End-small sound m few in
-      let block = blocksize-facts (o .plan .blocksize) (c .plan .block) in
+      let small = meta2End-small (plan-sound o (c .plan)) m few in
       let short = c .plan .prefix-short in
-      let known = format-known (c .plan .format) in
+      let long : meta1End (tasks o) ≤ length (closedAs st tail) = omega (arith, closed-long o st c tail, apart o st c, end-after o st c) in
+      let front = closed-front o st c tail in
+      let last = closed-fields o st c tail in
+      let said = front-says o (c .plan) (closedAs st tail) long front in
       record {
-        bounds = bounds;
-        long = omega (arith, closed-long o st c tail, apart o st c, end-after o st c);
-        magic-is = Stored.magic-back _ _ _ _ _ _ _ short stored;
-        order-is = Stored.order-back _ _ _ _ _ _ _ short stored;
-        version-is = Stored.version-back _ _ _ _ _ _ _ short stored (fit .0);
-        patch-is = Stored.patch-back _ _ _ _ _ _ _ short stored (fit .1);
-        format-is = Stored.format-back _ _ _ _ _ _ _ short stored (format-small known);
-        format-known = known;
-        blocksize-is = Stored.blocksize-back _ _ _ _ _ _ _ short stored (omega arith);
-        tasks-are = Stored.tasks-back _ _ _ _ _ _ _ short stored (omega (arith, c .plan .few-tasks));
-        files-are = Stored.files-back _ _ _ _ _ _ _ short stored;
-        file-number-is = Stored.file-number-back _ _ _ _ _ _ _ short stored;
-        ranks-are = λ i l.
-            Stored.rank-back _ _ _ _ _ _ _ short stored i l (omega (arith, bounds .ranks-range i l));
-        sizes-are = λ i l.
-            Stored.size-back _ _ _ _ _ _ _ short stored i l (omega (arith, bounds .sizes-range i l));
-        maxchunks-is = Stored.maxchunks-back _ _ _ _ _ _ _ short stored (omega (arith, few));
+        bounds = said .bounds;
+        long = said .long;
+        magic-is = said .magic-is;
+        order-is = said .order-is;
+        version-is = Stored.version-back _ _ _ _ _ short front (fit .0);
+        patch-is = Stored.patch-back _ _ _ _ _ short front (fit .1);
+        format-is = said .format-is;
+        format-known = said .format-known;
+        blocksize-is = said .blocksize-is;
+        tasks-are = said .tasks-are;
+        files-are = said .files-are;
+        file-number-is = said .file-number-is;
+        ranks-are = said .ranks-are;
+        sizes-are = said .sizes-are;
+        maxchunks-is = Stored.maxchunks-back _ _ _ (tasks o) (closedAs st tail) last (omega (arith, few));
         maxchunks-range = few;
-        start-is = Stored.start-back _ _ _ _ _ _ _ short stored (omega (arith, small, end-after o st c));
+        start-is = Stored.start-back _ _ _ (tasks o) (closedAs st tail) last (omega (arith, small, end-after o st c));
       }
 
   value-there : (i k : ℕ) → i < tasks o → k < m → mag (valueIn o st k i) < 2 ^ 63

@@ -28,8 +28,7 @@ use Rattle.format.specs.Open.{Opening, tasks, openHead}
 use Rattle.format.specs.Close.{maxchunksUsed, closeRefusal, closeAnswer, closeImage}
 use Rattle.format.proofs.Opening.{PlanHolds, plan-sound}
 use Rattle.format.specs.Passed.{Passed}
-use Rattle.format.proofs.Passing.{passed-used}
-use Rattle.format.proofs.Sessions.{session-passed}
+use Rattle.format.proofs.Storing.{close-passed}
 use Rattle.format.specs.Container.{meta2Said}
 use Rattle.container.specs.Format.{CloseStores}
 use Rattle.container.specs.WrittenBack.{contentsOf}
@@ -69,8 +68,7 @@ module _ (o : Opening) (st : State) (c : Closable o st) where
   end = endIn o st
 
   pub closing : Passed (st .session .head) (st .lists) m (st .image) (st .table)
-  unfolding closeRefusal
-  closing = passed-used (session-passed st (c .passes))
+  closing = close-passed st (c .passes)
 
   stores : CloseStores st m
   stores = close-stores st (close-number st ∙ c .passes)
@@ -135,19 +133,23 @@ module _ (o : Opening) (st : State) (c : Closable o st) where
   pub after-kept : (j : ℕ) → end ≤ j → getD (closeImage st) j 0 ≡ getD (st .image) j 0
   after-kept j l = stores .others j (inr (inr (rw end-is l)))
 
-  pub first-there : take (meta1End (tasks o)) (closeImage st) ≡ meta1 (openHead o) (entry (o .ranks)) (entry (o .sizes)) (o .prefix) m at
-  unfolding meta1 meta1End
-  first-there =
+  -- META1 ends with these two fields
+  fields-end : lastAt (tasks o) + 12 ≡ meta1End (tasks o)
+  unfolding meta1End
+  fields-end = omega arith
+
+  front-there : take (lastAt (tasks o)) (closeImage st) ≡ meta1Front (openHead o) (entry (o .ranks)) (entry (o .sizes)) (o .prefix)
+  front-there =
       let n : ℕ = tasks o in
-      let split : meta1End n ≡ lastAt n + 12 = omega arith in
-      let fits : lastAt n ≤ length (closeImage st) = omega (arith, apart, end-after, image-long) in
-      ap (λ (k : ℕ). take k (closeImage st)) split
-      ∙ take-add (lastAt n) 12 (closeImage st)
-      ∙ ap₂ _++_
-      (part-cong (lastAt n) 0 (closeImage st) (st .image) 0 (rw zero-add fits) (rw (zero-add, sym (stores .as-long)) fits)
+      let fits : lastAt n ≤ length (closeImage st) = omega (arith, fields-end, apart, end-after, image-long) in
+      part-cong (lastAt n) 0 (closeImage st) (st .image) 0 (rw zero-add fits) (rw (zero-add, sym (stores .as-long)) fits)
       (λ j l. rw zero-add (before-kept j l))
-      ∙ c .front)
-      fields-there
+      ∙ c .front
+
+  pub first-there : take (meta1End (tasks o)) (closeImage st) ≡ meta1 (openHead o) (entry (o .ranks)) (entry (o .sizes)) (o .prefix) m at
+  unfolding meta1
+  first-there =
+      ap (λ (k : ℕ). take k (closeImage st)) (sym fields-end) ∙ take-add (lastAt (tasks o)) 12 (closeImage st) ∙ ap₂ _++_ front-there fields-there
 
   pub length-said : closeAnswer st .length ≡ end
   length-said = stores .length-is ∙ end-is
@@ -195,8 +197,11 @@ module _ (o : Opening) (st : State) (c : Closable o st) where
         simp length-append
         (omega (arith, length-said, length-take-le (closeAnswer st .length) (closeImage st) (omega (arith, length-said, image-long))))
 
-    pub meta1-there : take (meta1End (tasks o)) (closedAs st tail) ≡ meta1 (openHead o) (entry (o .ranks)) (entry (o .sizes)) (o .prefix) m at
-    meta1-there = same-part 0 (meta1End (tasks o)) (omega (arith, apart, end-after)) ∙ first-there
+    pub closed-front : take (lastAt (tasks o)) (closedAs st tail) ≡ meta1Front (openHead o) (entry (o .ranks)) (entry (o .sizes)) (o .prefix)
+    closed-front = same-part 0 (lastAt (tasks o)) (omega (arith, fields-end, apart, end-after)) ∙ front-there
+
+    pub closed-fields : take 12 (drop (lastAt (tasks o)) (closedAs st tail)) ≡ lastFields (isBig (openHead o)) m at
+    closed-fields = same-part (lastAt (tasks o)) 12 (omega (arith, fields-end, apart, end-after)) ∙ fields-there
 
     pub part-there : meta2Said (closedAs st tail) (contentsOf o st) ≡ values (openHead o)
     part-there = same-part at (meta2Length (tasks o) m) (omega (arith, end-after)) ∙ second-there

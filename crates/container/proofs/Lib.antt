@@ -10,4 +10,5 @@ pub mod Rooms
 pub mod Finished
 pub mod Where
 pub mod Earlier
+pub mod Cuts
 pub mod Main

@@ -10,7 +10,7 @@ use Rattle.container.specs.Refusing.{Refusals}
 use Rattle.container.specs.Main.{Promises}
 use Rattle.format.proofs.Only.{only}
 use Rattle.format.proofs.Every.{every, says}
-use Rattle.container.proofs.Refusing.{load-number, load-refuses, chunk-refuses, chunk-judged, part-number, part-refuses, part-there, total-refuses, total-judged, read-refuses, read-judged, size-refuses, length-refuses, length-judged, prefix-refuses, prefix-judged, open-number, needs-refuses, needs-says, open-refuses, write-refuses, write-judged, close-refuses, close-judged, flag-ends}
+use Rattle.container.proofs.Refusing.{load-number, load-refuses, chunk-refuses, chunk-judged, part-number, part-refuses, part-there, total-refuses, total-judged, read-refuses, read-judged, size-refuses, length-refuses, length-judged, prefix-refuses, prefix-judged, open-number, needs-refuses, needs-says, open-refuses, open-within-refuses, write-refuses, write-within-refuses, write-judged, close-refuses, close-within-refuses, close-judged, flag-ends}
 use Rattle.format.proofs.Outcomes.{empty-keeps}
 use Rattle.container.proofs.ReadsBack.{reads-back, refuses-back}
 use Rattle.container.proofs.Where.{says-where}
@@ -21,6 +21,7 @@ use Rattle.container.proofs.WrittenBack.{written-back}
 use Rattle.container.proofs.Rooms.{room, alike, any-version}
 use Rattle.container.proofs.Finished.{finished}
 use Rattle.container.proofs.Earlier.{stays-acceptable}
+use Rattle.container.proofs.Cuts.{cuts, enough, closes-again}
 
 refusals : Refusals
 refusals = record {
@@ -34,8 +35,11 @@ refusals = record {
   prefix-refuses = prefix-refuses;
   needs-refuses = needs-refuses;
   open-refuses = open-refuses;
+  open-within-refuses = open-within-refuses;
   write-refuses = write-refuses;
+  write-within-refuses = write-within-refuses;
   close-refuses = close-refuses;
+  close-within-refuses = close-within-refuses;
   chunk-judged = chunk-judged;
   total-judged = total-judged;
   read-judged = read-judged;
@@ -79,5 +83,8 @@ promises = record {
   room = room;
   alike = alike;
   any-version = any-version;
+  cuts = λ o image table e. cuts o image table (opens o image table e);
+  enough = enough;
+  closes-again = closes-again;
   starts = λ o image table e. (is-start o image table (opens o image table e), has-front o image table (opens o image table e));
 }

@@ -19,9 +19,11 @@ use Rattle.format.specs.Record.{recordTests, isTask, noLists}
 use Rattle.format.specs.declared.session.Opened.{Opened}
 use Rattle.format.specs.declared.session.Closed.{Closed}
 use Rattle.format.specs.Session.{State, sessionTests}
-use Rattle.format.specs.Open.{Opening, shapeTests, numberTests, planTests, openRefusal, opens, openAnswer}
-use Rattle.format.specs.Write.{Request, capacityOf, spot, requestTests, writeRefusal, afterWrite, writes, refusals}
-use Rattle.format.specs.Close.{closeRefusal, closeAnswer, closeImage}
+use Rattle.format.specs.Open.{Opening, shapeTests, numberTests, planTests, openRefusal, opens, openAnswer, openImage, openFound}
+use Rattle.format.specs.Write.{Request, capacityOf, spot, requestTests, writeRefusal, afterWrite, writeFound, writes, refusals}
+use Rattle.lists.specs.Stores.{applied}
+use Rattle.format.specs.Close.{closeRefusal, closeAnswer, closeStores, closeImage, closeFound}
+use Rattle.format.proofs.Storing.{refused-found, refused-write-found, refused-close-found}
 use Rattle.format.proofs.Opening.{needs-number, needs-refused, open-plan, open-short, open-enough, refused-answer, refused-image, refused-table}
 use Rattle.format.proofs.Outcomes.{refused-keeps}
 use Rattle.format.specs.Load.{loadTests, loadRefusal, loadFault, checkAnswer, loadAnswer, loadTable}
@@ -263,13 +265,19 @@ module _ (o : Opening) (image : List ℕ) (table : List ℤ) where
     enough = λ none i t. open-number ∙ open-enough o (length image) (length table) none i t;
   }
 
-  pub open-refuses : OpenRefuses o image table
-  open-refuses = record {
+  opens-refused : (left : List ℕ) → (0 < openRefusal o (length image) (length table) → left ≡ image) → OpenRefuses o image table left
+  opens-refused left kept = record {
     numbered = rw open-number open-listed;
     moves-nothing =
         λ l. let r : 0 < openRefusal o (length image) (length table) = rw open-number at l in
-        rw (refused-answer o image table r, refused-image o image table r, refused-table o image table r);
+        rw (refused-answer o image table r, kept r, refused-table o image table r);
   }
+
+  pub open-refuses : OpenRefuses o image table (openImage o image table)
+  open-refuses = opens-refused _ (refused-image o image table)
+
+  pub open-within-refuses : (b : ℕ) → OpenRefuses o image table (openFound o image table b)
+  open-within-refuses b = opens-refused _ (λ r. refused-found o image table r b)
 
 -- with bytes and without
 write-listed : (st : State) (q : Request) → OneOf (0 ∷ writeNumbers) (writeRefusal st q)
@@ -296,8 +304,11 @@ write-judged st q = session-judged st (requestTests st q) (go (eqb (length (q .b
     go true = (under (omega arith), tt)
     go false = (under (omega arith), (under (omega arith), (under (omega arith), tt)))
 
-pub write-refuses : (st : State) (q : Request) → WriteRefuses st q
+pub write-refuses : (st : State) (q : Request) → WriteRefuses st q (afterWrite st q)
 write-refuses st q = record { numbered = write-listed st q; moves-nothing = refused-keeps st q }
+
+pub write-within-refuses : (st : State) (q : Request) (b : ℕ) → WriteRefuses st q (writeFound st q b)
+write-within-refuses st q b = record { numbered = write-listed st q; moves-nothing = refused-write-found st q b }
 
 module _ (st : State) where
   pub close-number : closeAnswer st .refusal ≡ closeRefusal st
@@ -317,14 +328,20 @@ module _ (st : State) where
   answer-kept r = when-refused _ _ _ r
 
   image-kept : 0 < closeRefusal st → closeImage st ≡ st .image
-  unfolding closeImage
-  image-kept r = when-refused _ _ _ r
+  unfolding closeImage closeStores applied
+  image-kept r = ap (applied (st .image)) (when-refused _ _ _ r)
 
-  pub close-refuses : CloseRefuses st
-  close-refuses = record {
+  closes-refused : (left : List ℕ) → (0 < closeRefusal st → left ≡ st .image) → CloseRefuses st left
+  closes-refused left kept = record {
     numbered = rw close-number close-listed;
-    moves-nothing = λ l. let r : 0 < closeRefusal st = rw close-number at l in rw (answer-kept r, image-kept r);
+    moves-nothing = λ l. let r : 0 < closeRefusal st = rw close-number at l in rw (answer-kept r, kept r);
   }
+
+  pub close-refuses : CloseRefuses st (closeImage st)
+  close-refuses = closes-refused _ image-kept
+
+  pub close-within-refuses : (b : ℕ) → CloseRefuses st (closeFound st b)
+  close-within-refuses b = closes-refused _ (λ r. refused-close-found st r b)
 
 -- ---- a session that is marked closed
 

@@ -71,6 +71,15 @@ module _ (s : Start) (is : IsStart s) where
     next-cells q i k l d =
         cells-kept last q i k l (λ e u. d e (u ∙ ap (λ (p : Terms). feed p (bookAfter s qs) (fedOf q) (i + 1) .u) same))
 
+    -- a byte that the tally puts nowhere for the next request is as it was
+    pub next-others : (q : Request) → (at : ℕ) → ((task value : ℕ) → PlacedAt (termsOf o) task at value (bookAfter s qs) (q ∷ []) → ⊥)
+        → getD (afterWrite (after s qs) q .image) at 0 ≡ getD (after s qs .image) at 0
+    unfolding openSession openHead
+    next-others q at none =
+        ap (λ (l : List ℕ). getD l at 0)
+        (step-simulates last q .image-is ∙ ap (λ (p : Terms). imageAfter p (bookAfter s qs) (after s qs .image) (q ∷ [])) same)
+        ∙ others _ _ (termsOf o) layout (q ∷ []) (bookAfter s qs) (after s qs .image) at (last .image-long) (subst (λ (p : Terms). AllReachable p (bookAfter s qs)) same (last .reachable)) none
+
   -- ---- a request in the middle of a list
 
   module _ (before rest : List Request) (q : Request) where

@@ -8,9 +8,10 @@ use native.Mathlib.Omega.{arith}
 use lib.IntN.{ℤ}
 use lib.ListN.{length, take, drop, getD, replicate}
 use Rattle.lists.specs.Splice.{splice}
+use Rattle.lists.specs.Stores.{applied}
 use Rattle.lists.proofs.Below.{greatest-at}
 use Rattle.lists.proofs.Splice.{length-splice, splice-here, splice-after, splice-first, splice-rest, getD-splice-out}
-use Rattle.format.specs.Layout.{meta1End, dataStart, meta2Start, meta2Length, meta2End}
+use Rattle.format.specs.Layout.{meta1End, dataStart, meta2Length, meta2End}
 use Rattle.format.proofs.Chunks.{meta1-before-data}
 use Rattle.format.proofs.Power.{blocksize-facts}
 use Rattle.format.specs.declared.head.Head.{Head}
@@ -18,16 +19,16 @@ use Rattle.format.specs.Meta1.{lastAt, lastFields, meta1, openingBytes}
 use Rattle.format.specs.Meta2.{leastCount, meta2}
 use Rattle.format.specs.Record.{entry, cell, sizeOf, countOf, isBig, meta2At, endAt}
 use Rattle.format.proofs.Refusals.{when-accepted}
-use Rattle.format.proofs.Passing.{head-tasks, head-block, passed-used}
+use Rattle.format.proofs.Passing.{head-tasks}
 use Rattle.format.proofs.Stored.{length-last, length-opening, length-meta2}
+use Rattle.format.proofs.Storing.{close-passed, close-stores-are, fields-before}
 use Rattle.format.specs.declared.session.Session.{Session}
 use Rattle.format.specs.declared.session.Closed.{Closed}
 use Rattle.format.specs.Session.{State, asClosed}
 use Rattle.format.specs.Open.{Opening, tasks, blankCells, openRefusal, openHead, openSession, openLists, openAnswer, openImage}
-use Rattle.format.specs.Close.{maxchunksOf, maxchunksUsed, closeRefusal, finished, closedImage, closeAnswer, closeImage}
+use Rattle.format.specs.Close.{maxchunksOf, maxchunksUsed, closeRefusal, closingStores, closeAnswer, closeImage}
 use Rattle.format.proofs.Opening.{OpeningHolds, opening-holds, opening-data, opened-session, opened-lists, opened-image, opened-table}
 use Rattle.format.specs.Passed.{Passed}
-use Rattle.format.proofs.Sessions.{session-passed}
 use Rattle.container.specs.Format.{Begun, OpeningStores, CloseStores}
 use Rattle.container.specs.Refusing.{Ended, afterClose}
 use Rattle.container.proofs.Refusing.{open-number, close-number, flag-ends}
@@ -118,12 +119,7 @@ module _ (st : State) where
     size = sizeOf (st .lists)
 
     closing : Passed head (st .lists) m (st .image) (st .table)
-    unfolding closeRefusal
-    closing = passed-used (session-passed st zero)
-
-    image-is : closeImage st ≡ finished head (st .lists) m (st .table) (st .image)
-    unfolding closeImage closedImage
-    image-is = when-accepted _ _ _ zero
+    closing = close-passed st zero
 
     answer-is : closeAnswer st ≡ record { refusal = 0; session = asClosed (st .session); length = endAt head size m }
     unfolding closeAnswer
@@ -139,6 +135,10 @@ module _ (st : State) where
     abbrev between : List ℕ
     between = splice (st .image) (meta2At head size m) second
 
+    image-is : closeImage st ≡ splice between (lastAt (head .n)) last
+    unfolding closeImage applied closingStores
+    image-is = ap (applied (st .image)) (close-stores-are st zero)
+
     second-long : length second ≡ meta2Length (head .n) m
     second-long = length-meta2 (isBig head) (head .n) m (countOf (st .lists)) (cell (st .table))
 
@@ -150,10 +150,7 @@ module _ (st : State) where
     end-is = refl
 
     apart : lastAt (head .n) + 12 ≤ meta2At head size m
-    unfolding meta2At meta2Start meta1End
-    apart =
-        let f = blocksize-facts (head .blocksize) (head-block head (st .lists) (closing .head)) in
-        omega (arith, meta1-before-data (head .blocksize) (head .n) (omega arith))
+    apart = fields-before st zero
 
     second-fits : meta2At head size m + length second ≤ length (st .image)
     second-fits = omega (arith, second-long, end-is, closing .image-long)
@@ -165,7 +162,6 @@ module _ (st : State) where
     last-fits = omega (arith, last-long, between-long, apart, second-fits)
 
     second-there : take (endAt head size m - meta2At head size m) (drop (meta2At head size m) (closeImage st)) ≡ second
-    unfolding finished
     second-there =
         let bytes : endAt head size m - meta2At head size m ≡ length second = omega (arith, second-long, end-is) in
         rw (image-is, bytes)
@@ -174,14 +170,13 @@ module _ (st : State) where
         ∙ splice-here (st .image) (meta2At head size m) second second-fits)
 
     last-there : take 12 (drop (lastAt (head .n)) (closeImage st)) ≡ last
-    unfolding finished
     last-there =
         rw (image-is, ← last-long) (splice-here between (lastAt (head .n)) last last-fits)
 
     outside : (j : ℕ)
         → (j < lastAt (head .n)) ⊎ (((meta1End (head .n) ≤ j) × (j < meta2At head size m)) ⊎ (endAt head size m ≤ j))
         → getD (closeImage st) j 0 ≡ getD (st .image) j 0
-    unfolding finished meta1End
+    unfolding meta1End
     outside j ways =
         rw image-is
         (getD-splice-out between (lastAt (head .n)) last last-fits j 0
@@ -190,7 +185,6 @@ module _ (st : State) where
         (⊎-elim (λ b. inl (omega (arith, apart))) (λ w. ⊎-elim (λ b. inl (b .1)) (λ b. inr (omega (arith, second-long, end-is))) w) ways))
 
     close-as-long : length (closeImage st) ≡ length (st .image)
-    unfolding finished
     close-as-long = rw image-is (length-splice between (lastAt (head .n)) last last-fits ∙ between-long)
 
     count-reached : (i : ℕ) × (i < head .n) × (countOf (st .lists) i ≡ m)

@@ -16,7 +16,7 @@ use Rattle.lists.proofs.Below.{and-left, and-right, or-left, or-right, or-both,
 use Rattle.lists.proofs.Splice.{part-part}
 use Rattle.endian.specs.Number.{number}
 use Rattle.endian.specs.Signed.{signed, signedAt, within, sameZ, natural}
-use Rattle.endian.proofs.Signed.{within-natural, within-holds, within-one, sameZ-eq, sameZ-refl}
+use Rattle.endian.proofs.Signed.{within-natural, within-holds, within-one, within-other, sameZ-eq, sameZ-refl}
 use Rattle.format.specs.Limits.{maxTasks, maxBlocks, maxSize, maxRank, formatRule, blocksizeRule, tasksRule, isNew, rankRule, maxchunksRule}
 use Rattle.format.specs.Layout.{capacity, meta1End, meta2Length}
 use Rattle.format.specs.Meta1
@@ -225,11 +225,7 @@ module _ (image : List ℕ) (cells : ℕ) where
           other j l false e = refl
 
   closed-fits : Exactly (is 0 (w.long image (1076 + 16 * w.n image + 4)) ≡ false) (w.Keeps image cells w.closed)
-  closed-fits = (λ e zero. false≢true (sym e ∙ is-one 0 _ zero), λ closed. some (is 0 (w.long image (1076 + 16 * w.n image + 4))) refl closed)
-    where
-      some : (b : Bool) → is 0 (w.long image (1076 + 16 * w.n image + 4)) ≡ b → w.Keeps image cells w.closed → b ≡ false
-      some true e closed = absurd (closed (within-one 0 _ e))
-      some false e closed = refl
+  closed-fits = (λ e zero. false≢true (sym e ∙ is-one 0 _ zero), within-other 0 _)
 
   maxchunks-fits : Exactly (not (maxchunksRule (w.int image (1076 + 16 * w.n image))) ≡ false) (w.Keeps image cells w.maxchunks)
   unfolding maxchunksRule

@@ -42,7 +42,7 @@ use Rattle.container.proofs.ReadsBack.{reads-back}
 use Rattle.format.proofs.Stream.{counted}
 use Rattle.format.proofs.Stored.{prefix-back}
 use Rattle.format.proofs.About.{prefix-found, prefix-bytes}
-use Rattle.container.proofs.ClosedParts.{Closable, closedAs, startIn, length-said, meta1-there, closed-as-long, image-long, between-kept, closed-most, in-range, same-part}
+use Rattle.container.proofs.ClosedParts.{Closable, closedAs, length-said, closed-front, closed-as-long, image-long, between-kept, closed-most, in-range, same-part}
 use Rattle.container.proofs.Closed.{has-meta1, has-meta2}
 use Rattle.format.proofs.Opens.{plan-passes}
 
@@ -196,8 +196,7 @@ module _ (s : Start) (is : IsStart s) (front : HasFront s) (qs : List Request) w
     prefix-there : take prefixLength (drop prefixAt whole) ≡ padded (o .prefix)
     unfolding openHead
     prefix-there =
-        prefix-back (openHead o) (entry (o .ranks)) (entry (o .sizes)) (o .prefix) (Close.maxchunksUsed st) (startIn o st) whole
-        (plan .prefix-short) (meta1-there o st closable tail)
+        prefix-back (openHead o) (entry (o .ranks)) (entry (o .sizes)) (o .prefix) whole (plan .prefix-short) (closed-front o st closable tail)
 
     loads-again : LoadsAgain o st bytes whole cells
     loads-again = record {

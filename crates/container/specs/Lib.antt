@@ -6,4 +6,5 @@ pub mod WrittenBack
 pub mod Room
 pub mod Earlier
 pub mod Versions
+pub mod Cuts
 pub mod Main

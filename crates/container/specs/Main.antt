@@ -18,6 +18,7 @@ use Rattle.container.specs.WrittenBack.{Finished, WrittenBack}
 use Rattle.container.specs.Room.{Claim, Alike}
 use Rattle.container.specs.Earlier.{StaysAcceptable}
 use Rattle.container.specs.Versions.{inFormat, SameWrites}
+use Rattle.container.specs.Cuts.{Cuts, Enough, ClosesAgain}
 
 pub record Promises : Type 0 where
   -- demand 1: any bytes and any request
@@ -42,6 +43,10 @@ pub record Promises : Type 0 where
   -- whatever the version: two starts whose plans differ in it only
   pub any-version : (s t : Start) → IsStart s → IsStart t → (format : ℕ) → t .plan ≡ inFormat format (s .plan) → s .book ≡ t .book
       → (qs : List Request) → SameWrites s t qs
+  -- power cuts (W-212): what is found at each moment, that a budget which is enough gives the call itself, and a close that is made again
+  pub cuts : (o : Opening) → (image : List ℕ) → (table : List ℤ) → Opens o image table → Cuts o image table
+  pub enough : Enough
+  pub closes-again : (st : State) → (b : ℕ) → ClosesAgain st b
   -- an accepted opening gives a start
   pub starts : (o : Opening) → (image : List ℕ) → (table : List ℤ) → Opens o image table
       → IsStart (openedStart o image table) × HasFront (openedStart o image table)

@@ -9,9 +9,9 @@ use lib.ListN.{length, replicate}
 use Rattle.format.specs.Record.{noLists}
 use Rattle.format.specs.declared.session.Session.{Session}
 use Rattle.format.specs.Session.{State, stateOf, noSession}
-use Rattle.format.specs.Open.{Opening, needsAnswer, openAnswer, openImage, openTable}
-use Rattle.format.specs.Write.{Request, writeRefusal, afterWrite, writes, refusals}
-use Rattle.format.specs.Close.{closeAnswer, closeImage}
+use Rattle.format.specs.Open.{Opening, needsAnswer, openAnswer, openImage, openFound, openTable}
+use Rattle.format.specs.Write.{Request, writeRefusal, afterWrite, writeFound, writes, refusals}
+use Rattle.format.specs.Close.{closeAnswer, closeImage, closeFound}
 use Rattle.format.specs.declared.loaded.Loaded.{Loaded}
 use Rattle.format.specs.Loaded.{noLoaded}
 use Rattle.format.specs.Accepted.{LoadedJudged, SessionJudged}
@@ -89,19 +89,20 @@ PrefixRefuses c = let a = prefixAnswer c in Refuses {A = ℕ × ℕ} recordNumbe
 abbrev pub NeedsRefuses : Opening → Type 0
 NeedsRefuses o = let a = needsAnswer o in Refuses {A = ℕ × ℕ} needsNumbers (a .refusal) (a .image, a .cells) (0, 0)
 
-abbrev pub OpenRefuses : Opening → List ℕ → List ℤ → Type 0
-OpenRefuses o image table =
+-- of the calls that store into the image, with the image or the session that they leave: once of the call itself, and once within a budget (W-212)
+abbrev pub OpenRefuses : Opening → List ℕ → List ℤ → List ℕ → Type 0
+OpenRefuses o image table left =
     let a = openAnswer o image table in
     Refuses {A = Session × List ℕ × List ℕ × List ℤ} openNumbers (a .refusal)
-    (a .session, a .lists, openImage o image table, openTable o image table) (noSession, noLists, image, table)
+    (a .session, a .lists, left, openTable o image table) (noSession, noLists, image, table)
 
-abbrev pub WriteRefuses : State → Request → Type 0
-WriteRefuses st q = Refuses writeNumbers (writeRefusal st q) (afterWrite st q) st
+abbrev pub WriteRefuses : State → Request → State → Type 0
+WriteRefuses st q left = Refuses writeNumbers (writeRefusal st q) left st
 
-abbrev pub CloseRefuses : State → Type 0
-CloseRefuses st =
+abbrev pub CloseRefuses : State → List ℕ → Type 0
+CloseRefuses st left =
     let a = closeAnswer st in
-    Refuses {A = Session × ℕ × List ℕ} recordNumbers (a .refusal) (a .session, a .length, closeImage st) (st .session, 0, st .image)
+    Refuses {A = Session × ℕ × List ℕ} recordNumbers (a .refusal) (a .session, a .length, left) (st .session, 0, st .image)
 
 -- what an opening needs says just how the opening is answered, whatever that is lent
 pub record NeedsSays (o : Opening) (image : List ℕ) (table : List ℤ) : Type 0 where
@@ -131,9 +132,12 @@ pub record Refusals : Type 0 where
   pub length-refuses : (c : Container) → LengthRefuses c
   pub prefix-refuses : (c : Container) → PrefixRefuses c
   pub needs-refuses : (o : Opening) → NeedsRefuses o
-  pub open-refuses : (o : Opening) → (image : List ℕ) → (table : List ℤ) → OpenRefuses o image table
-  pub write-refuses : (st : State) → (q : Request) → WriteRefuses st q
-  pub close-refuses : (st : State) → CloseRefuses st
+  pub open-refuses : (o : Opening) → (image : List ℕ) → (table : List ℤ) → OpenRefuses o image table (openImage o image table)
+  pub open-within-refuses : (o : Opening) → (image : List ℕ) → (table : List ℤ) → (b : ℕ) → OpenRefuses o image table (openFound o image table b)
+  pub write-refuses : (st : State) → (q : Request) → WriteRefuses st q (afterWrite st q)
+  pub write-within-refuses : (st : State) → (q : Request) → (b : ℕ) → WriteRefuses st q (writeFound st q b)
+  pub close-refuses : (st : State) → CloseRefuses st (closeImage st)
+  pub close-within-refuses : (st : State) → (b : ℕ) → CloseRefuses st (closeFound st b)
   -- 17, 18 and 19
   pub chunk-judged : (c : Container) → (task chunk : ℕ) → LoadedJudged c (chunkRefusal c task chunk)
   pub total-judged : (c : Container) → (task : ℕ) → LoadedJudged c (totalAnswer c task .refusal)

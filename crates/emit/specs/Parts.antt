@@ -1,10 +1,11 @@
--- The two groups of fields before META1's prefix, as the bytes that are stored together; META1 itself is `meta1Front` of `format`.
+-- The two groups of fields before META1's prefix, as the bytes that are made together; META1 itself is `meta1Front` of `format`.
 use mathlib.Core.Bool.{Bool}
 use mathlib.Core.List.{List, _++_}
 use Prim.Native.Nat.{ℕ}
 use lib.IntN.{ℤ, pos}
 use lib.ListN.{replicate}
 use Rattle.endian.specs.Signed.{signedDigits}
+use Rattle.format.specs.declared.head.Head.{Head}
 use Rattle.format.specs.Meta1.{magic, orderNumber, fileCount, fileNumber}
 
 -- the magic, the order and the versions
@@ -18,3 +19,7 @@ unfoldable pub shape : Bool → ℕ → ℕ → List ℕ
 shape big blocksize n =
     (((signedDigits big 4 (pos blocksize) ++ signedDigits big 4 (pos n)) ++ signedDigits big 4 (pos fileCount))
     ++ signedDigits big 4 (pos fileNumber)) ++ replicate 16 0
+
+-- both: the fields before the prefix
+abbrev pub firstFields : Bool → Head → List ℕ
+firstFields big h = versions big (h .version) (h .patch) (h .format) ++ shape big (h .blocksize) (h .n)

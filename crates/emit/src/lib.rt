@@ -1,59 +1,25 @@
-// The metadata blocks stored into an image: META1 at opening, its last two fields at closing, and META2.
-// Each function promises the one splice that it makes; every store goes through endian's.
+// The metadata blocks stored into an image: META1 at opening, its last two fields at closing, and META2, each within a budget of byte stores.
+// Each function but `meta1` stores one run of bytes and answers what is left of the budget; every store goes through those of `stores`.
 ghost use mathlib.Core.Path.{_≡_};
 ghost use mathlib.Core.Bool.{true};
 ghost use mathlib.Core.List.{_++_};
 ghost use Prim.Native.Nat.{_+_, _-_, _*_, _≤_};
 ghost use lib.IntN.{pos};
-ghost use lib.ListN.{length, getD, replicate};
-ghost use Rattle.lists.specs.Below.{joinBelow};
-ghost use Rattle.endian.specs.Number.{digits};
-ghost use Rattle.endian.specs.Signed.{signedDigits};
+ghost use lib.ListN.{length, drop};
 ghost use Rattle.lists.specs.Splice.{splice};
+ghost use Rattle.lists.specs.Stores.{found, Spends};
 ghost use Rattle.format.specs.Limits.{blocksizeRule, maxTasks, maxBlocks};
 ghost use Rattle.format.specs.Layout.{meta1End, dataStart, meta2Length};
 ghost use Rattle.format.specs.declared.head.Head.{Head};
 ghost use Rattle.format.specs.Record.{entry, cell, allLists, rankOf, sizeOf};
-ghost use Rattle.format.specs.Meta1.{prefixLength, fixedLength, lastAt, padded, lastFields, openingBytes};
+ghost use Rattle.format.specs.Meta1.{prefixLength, fixedLength, lastAt, padded, lastFields, openingBytes, openingStores};
 ghost use Rattle.format.specs.Meta2.{meta2};
-ghost use Rattle.emit.specs.Parts.{versions, shape};
+ghost use Rattle.emit.specs.Parts.{versions, shape, firstFields};
 use format::field;
 use format::head;
 use format::head::Head;
 use stores::memory;
 use stores::numbers;
-
-// Zeros from `from` up to `to`.
-fn put_zeros(image: &mut [u8], from: usize, to: usize)
-    requires { ⌜ (from ≤ to) × (to ≤ length (now image)) ⌝ }
-    ensures { λ _. ⌜ now (image .exit) ≡ splice (now (image .entry)) from (replicate (to - from) 0) ⌝ }
-{
-    memory::clear(&mut image[from..to]);
-}
-
-// n numbers of 8 bytes, from `at` on.
-fn put_list(image: &mut [u8], at: usize, values: &[u64], n: usize, big: bool)
-    requires { ⌜ (n ≤ length (now values)) × (at + 8 * n ≤ length (now image)) ⌝ }
-    ensures { λ _. ⌜ now (image .exit) ≡ splice (now (image .entry)) at (joinBelow n (λ i. digits big 8 (getD (now (values .entry)) i 0))) ⌝ }
-{
-    let mut i = 0;
-    while i < n {
-        numbers::put_u64(image, at + 8 * i, big, values[i]);
-        i += 1;
-    }
-}
-
-// The first `cells` cells of a table, as numbers of 8 bytes from `at` on.
-fn put_cells(image: &mut [u8], at: usize, table: &[i64], cells: usize, big: bool)
-    requires { ⌜ (cells ≤ length (now table)) × (at + 8 * cells ≤ length (now image)) ⌝ }
-    ensures { λ _. ⌜ now (image .exit) ≡ splice (now (image .entry)) at (joinBelow cells (λ j. signedDigits big 8 (cell (now (table .entry)) j))) ⌝ }
-{
-    let mut j = 0;
-    while j < cells {
-        numbers::put_i64(image, at + 8 * j, big, table[j]);
-        j += 1;
-    }
-}
 
 // META2 from `at` on.
 pub fn meta2(
@@ -64,90 +30,129 @@ pub fn meta2(
     n: u32,
     maxchunks: u32,
     big: bool,
-)
+    budget: u64,
+) -> u64
     requires { ⌜ (n ≤ maxTasks) × (maxchunks ≤ maxBlocks) × (n ≤ length (now counts)) × (n * maxchunks ≤ length (now table)) ⌝ }
     requires { ⌜ at + meta2Length n maxchunks ≤ length (now image) ⌝ }
-    ensures { λ _. ⌜ now (image .exit) ≡ splice (now (image .entry)) at (meta2 big n maxchunks (entry (now (counts .entry))) (cell (now (table .entry)))) ⌝ }
+    ensures { λ r. ⌜ Spends budget (now (image .entry)) at (meta2 big n maxchunks (entry (now (counts .entry))) (cell (now (table .entry)))) (now (image .exit)) r ⌝ }
 {
     let tasks = n as usize;
     let cells = tasks * maxchunks as usize;
-    put_list(image, at, counts, tasks, big);
-    put_cells(image, at + 8 * tasks, table, cells, big);
+    let left = runs::put_list(image, at, counts, tasks, big, budget);
+    runs::put_cells(image, at + 8 * tasks, table, cells, big, left)
 }
 
-// META1's last two fields: what closing fills.
-pub fn last_fields(image: &mut [u8], n: u32, big: bool, maxchunks: u32, start: u64)
+// META1's last two fields, which closing fills: maxchunks, then start_of_varheader.
+pub fn last_fields(
+    image: &mut [u8],
+    n: u32,
+    big: bool,
+    maxchunks: u32,
+    start: u64,
+    budget: u64,
+) -> u64
     requires { ⌜ (n ≤ maxTasks) × (meta1End n ≤ length (now image)) ⌝ }
-    ensures { λ _. ⌜ now (image .exit) ≡ splice (now (image .entry)) (lastAt n) (lastFields big maxchunks start) ⌝ }
+    ensures { λ r. ⌜ Spends budget (now (image .entry)) (lastAt n) (lastFields big maxchunks start) (now (image .exit)) r ⌝ }
 {
     let at = layout::last_at(n as usize);
-    numbers::put_u32(image, at, big, maxchunks);
-    numbers::put_u64(image, at + 4, big, start);
+    let mut fields = [0; 12];
+    numbers::put_u32(&mut fields, 0, big, maxchunks);
+    numbers::put_u64(&mut fields, 4, big, start);
+    memory::copy_within(&mut image[at..], &fields, budget)
 }
 
 // The magic, the order and the versions, from 0 on.
-fn put_versions(image: &mut [u8], big: bool, version: i32, patch: i32, format: u32)
-    requires { ⌜ 20 ≤ length (now image) ⌝ }
-    ensures { λ _. ⌜ now (image .exit) ≡ splice (now (image .entry)) 0 (versions big version patch format) ⌝ }
+fn put_versions(fields: &mut [u8], big: bool, version: i32, patch: i32, format: u32)
+    requires { ⌜ 20 ≤ length (now fields) ⌝ }
+    ensures { λ _. ⌜ now (fields .exit) ≡ splice (now (fields .entry)) 0 (versions big version patch format) ⌝ }
 {
     let magic = field::MAGIC;
-    memory::copy_in(image, &magic);
-    numbers::put_u32(image, field::ORDER_AT, big, field::ORDER);
-    numbers::put_i32(image, field::VERSION_AT, big, version);
-    numbers::put_i32(image, field::PATCH_AT, big, patch);
-    numbers::put_u32(image, field::FORMAT_AT, big, format);
+    memory::copy_in(fields, &magic);
+    numbers::put_u32(fields, field::ORDER_AT, big, field::ORDER);
+    numbers::put_i32(fields, field::VERSION_AT, big, version);
+    numbers::put_i32(fields, field::PATCH_AT, big, patch);
+    numbers::put_u32(fields, field::FORMAT_AT, big, format);
 }
 
 // The blocksize, the tasks, the one file and two flags of zeros, from 20 on.
-fn put_shape(image: &mut [u8], big: bool, blocksize: u32, n: u32)
-    requires { ⌜ 52 ≤ length (now image) ⌝ }
-    ensures { λ _. ⌜ now (image .exit) ≡ splice (now (image .entry)) 20 (shape big blocksize n) ⌝ }
+fn put_shape(fields: &mut [u8], big: bool, blocksize: u32, n: u32)
+    requires { ⌜ 52 ≤ length (now fields) ⌝ }
+    ensures { λ _. ⌜ now (fields .exit) ≡ splice (now (fields .entry)) 20 (shape big blocksize n) ⌝ }
 {
-    numbers::put_u32(image, field::BLOCKSIZE_AT, big, blocksize);
-    numbers::put_u32(image, field::TASKS_AT, big, n);
-    numbers::put_u32(image, field::FILES_AT, big, field::FILES);
-    numbers::put_u32(image, field::FILE_NUMBER_AT, big, field::FILE_NUMBER);
-    put_zeros(image, field::FLAGS_AT, field::PREFIX_AT);
+    numbers::put_u32(fields, field::BLOCKSIZE_AT, big, blocksize);
+    numbers::put_u32(fields, field::TASKS_AT, big, n);
+    numbers::put_u32(fields, field::FILES_AT, big, field::FILES);
+    numbers::put_u32(fields, field::FILE_NUMBER_AT, big, field::FILE_NUMBER);
+    memory::clear(&mut fields[field::FLAGS_AT..field::PREFIX_AT]);
+}
+
+// The fields before the prefix.
+fn first_fields(h: Head, big: bool) -> [u8; 52]
+    ensures { λ r. ⌜ r ≡ firstFields big h ⌝ }
+{
+    let mut fields = [0; field::PREFIX_AT];
+    put_versions(&mut fields, big, h.version, h.patch, h.format);
+    put_shape(&mut fields, big, h.blocksize, h.n);
+    fields
 }
 
 // The prefix and the zeros after it, from 52 on.
-fn put_prefix(image: &mut [u8], prefix: &[u8])
+fn put_prefix(image: &mut [u8], prefix: &[u8], budget: u64) -> u64
     requires { ⌜ (length (now prefix) ≤ prefixLength) × (52 + prefixLength ≤ length (now image)) ⌝ }
-    ensures { λ _. ⌜ now (image .exit) ≡ splice (now (image .entry)) 52 (padded (now (prefix .entry))) ⌝ }
+    ensures { λ r. ⌜ Spends budget (now (image .entry)) 52 (padded (now (prefix .entry))) (now (image .exit)) r ⌝ }
 {
-    memory::copy_in(&mut image[field::PREFIX_AT..], prefix);
-    put_zeros(image, field::PREFIX_AT + prefix.len(), field::RANKS_AT);
+    let left = memory::copy_within(&mut image[field::PREFIX_AT..], prefix, budget);
+    runs::put_zeros(
+        image,
+        field::PREFIX_AT + prefix.len(),
+        field::RANKS_AT,
+        left,
+    )
 }
 
-// All of META1 before the ranks.
-fn put_fixed(image: &mut [u8], h: Head, big: bool, prefix: &[u8])
+// All of META1 from 1 up to the ranks.
+fn put_fixed(image: &mut [u8], h: Head, big: bool, prefix: &[u8], budget: u64) -> u64
     requires { ⌜ (length (now prefix) ≤ prefixLength) × (fixedLength ≤ length (now image)) ⌝ }
-    ensures { λ _. ⌜ now (image .exit) ≡ splice (now (image .entry)) 0 ((versions big (h .version) (h .patch) (h .format) ++ shape big (h .blocksize) (h .n)) ++ padded (now (prefix .entry))) ⌝ }
+    ensures { λ r. ⌜ Spends budget (now (image .entry)) 1 (drop 1 (firstFields big h) ++ padded (now (prefix .entry))) (now (image .exit)) r ⌝ }
 {
-    put_versions(image, big, h.version, h.patch, h.format);
-    put_shape(image, big, h.blocksize, h.n);
-    put_prefix(image, prefix);
+    let fields = first_fields(h, big);
+    let left = memory::copy_within(&mut image[1..], &fields[1..], budget);
+    put_prefix(image, prefix, left)
 }
 
-// META1, its last two fields 0, and zeros up to D: what opening stores.
-pub fn meta1(image: &mut [u8], h: Head, lists: &[u64], prefix: &[u8])
+// META1 but for its first byte, its last two fields 0, and zeros up to D.
+fn put_rest(image: &mut [u8], h: Head, lists: &[u64], prefix: &[u8], budget: u64) -> u64
     requires { ⌜ (blocksizeRule (pos (h .blocksize)) ≡ true) × (h .n ≤ maxTasks) × (length (now lists) ≡ allLists) ⌝ }
     requires { ⌜ length (now prefix) ≤ prefixLength ⌝ }
     requires { ⌜ dataStart (h .blocksize) (h .n) ≤ length (now image) ⌝ }
-    ensures { λ _. ⌜ now (image .exit) ≡ splice (now (image .entry)) 0 (openingBytes h (rankOf (now (lists .entry))) (sizeOf (now (lists .entry))) (now (prefix .entry))) ⌝ }
+    ensures { λ r. ⌜ Spends budget (now (image .entry)) 1 (drop 1 (openingBytes h (rankOf (now (lists .entry))) (sizeOf (now (lists .entry))) (now (prefix .entry)))) (now (image .exit)) r ⌝ }
 {
     let big = h.order == 1;
     let n = h.n as usize;
     let last = layout::last_at(n);
     let end = layout::data_start(h.n, h.blocksize) as usize;
-    put_fixed(image, h, big, prefix);
-    put_list(image, field::RANKS_AT, &lists[..head::SIZES], n, big);
-    put_list(
+    let left = put_fixed(image, h, big, prefix, budget);
+    let left = runs::put_list(image, field::RANKS_AT, &lists[..head::SIZES], n, big, left);
+    let left = runs::put_list(
         image,
         layout::sizes_at(n),
         &lists[head::SIZES..head::COUNTS],
         n,
         big,
+        left,
     );
-    put_zeros(image, last, end);
+    runs::put_zeros(image, last, end, left)
+}
+
+// What opening stores: 0 into the magic's first byte, then all up to D, and the first byte itself last.
+pub fn meta1(image: &mut [u8], h: Head, lists: &[u64], prefix: &[u8], budget: u64)
+    requires { ⌜ (blocksizeRule (pos (h .blocksize)) ≡ true) × (h .n ≤ maxTasks) × (length (now lists) ≡ allLists) ⌝ }
+    requires { ⌜ length (now prefix) ≤ prefixLength ⌝ }
+    requires { ⌜ dataStart (h .blocksize) (h .n) ≤ length (now image) ⌝ }
+    ensures { λ _. ⌜ now (image .exit) ≡ found budget (now (image .entry)) (openingStores h (rankOf (now (lists .entry))) (sizeOf (now (lists .entry))) (now (prefix .entry))) ⌝ }
+{
+    let magic = field::MAGIC;
+    let left = runs::put_zeros(image, 0, 1, budget);
+    let left = put_rest(image, h, lists, prefix, left);
+    memory::copy_within(image, &magic[..1], left);
 }

@@ -14,6 +14,7 @@ use lib.Seq.{take-at, drop-drop, drop-append-le}
 use lib.Signed.{mag}
 use borrow.Author.Tests.{lt-ltb, le-ltb, ltb-true, ltb-false, leb-true, le-leb, lt-leb, eqb-true, eq-eqb}
 use Rattle.lists.specs.Below.{joinBelow}
+use Rattle.lists.specs.Logic.{Not}
 use Rattle.endian.specs.Number.{number}
 use Rattle.endian.specs.Signed.{signed, bitsOf, signBit, signedAt, signedDigits, within, sameZ, natural}
 use Rattle.lists.proofs.Below.{and-left, and-right, length-join}
@@ -65,9 +66,16 @@ pub within-natural : (lo hi : ℕ) (z : ℤ) → within lo hi z ≡ true → InR
 within-natural lo hi (pos n) e = let f = within-facts lo hi n e in (refl, f .0, f .1)
 within-natural lo hi (negsuc n) e = absurd (false≢true e)
 
--- a range of one number
+-- a range of one number, and an integer that is another
 pub within-one : (v : ℕ) (z : ℤ) → within v v z ≡ true → z ≡ pos v
 within-one v z e = let f = within-natural v v z e in f .0 ∙ ap pos (le-antisymm (f .2) (f .1))
+
+pub within-other : (v : ℕ) (z : ℤ) → Not (z ≡ pos v) → within v v z ≡ false
+within-other v z other = go (within v v z) refl
+  where
+    go : (b : Bool) → within v v z ≡ b → b ≡ false
+    go true e = absurd (other (within-one v z e))
+    go false e = refl
 
 -- an unsigned reading passes a range test exactly when the signed one does
 pub within-signed : (lo hi h n : ℕ) → hi < 2 ^ h → within lo hi (signed h n) ≡ (leb lo n && leb n hi)

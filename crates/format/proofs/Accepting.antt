@@ -36,8 +36,8 @@ is-refl v = within-holds v v v (le-refl v) (le-refl v)
 
 -- ---- META1
 
--- xs are the image's first bytes, and `len` is the length of the whole
-pub record Meta1Holds (xs : List ℕ) (len : ℕ) : Type 0 where
+-- what holds of the fields before the last two, where xs are the image's first bytes and `len` is the length of the whole
+pub record FrontHolds (xs : List ℕ) (len : ℕ) : Type 0 where
   pub magic-is : magicIn xs ≡ true
   pub order-is : Meta1.orderField (bigIn xs) xs ≡ pos Meta1.orderNumber
   pub format : formatRule (Meta1.formatField (bigIn xs) xs) ≡ true
@@ -48,6 +48,10 @@ pub record Meta1Holds (xs : List ℕ) (len : ℕ) : Type 0 where
   pub long : meta1End (tasksIn xs) ≤ len
   pub ranks : ranksRule (tasksIn xs) (Meta1.rankField (bigIn xs) xs) ≡ true
   pub sizes : sizesRule (tasksIn xs) (Meta1.sizeField (bigIn xs) xs (tasksIn xs)) ≡ true
+
+-- what holds of all fields
+pub record Meta1Holds (xs : List ℕ) (len : ℕ) : Type 0 where
+  pub front : FrontHolds xs len
   pub maxchunks : maxchunksRule (Meta1.maxchunksField (bigIn xs) xs (tasksIn xs)) ≡ true
   pub start-is : Meta1.startField (bigIn xs) xs (tasksIn xs) ≡ pos (meta2In xs)
   pub fits : endAt (headIn xs) (sizeIn xs) (maxchunksIn xs) ≤ len
@@ -157,51 +161,59 @@ module _ (xs : List ℕ) where
         let (mark, (order, (short, (format, (blocksize, (tasks, (files, (fileNumber, (long, end))))))))) = none-fails (fixedTests xs len) fixed-numbered fixed in
         let (unclosed, (maxchunks, (place, (fits, end)))) = none-fails (lastTests xs len) last-numbered last in
         record {
-          magic-is = not-false _ (or-right (ltb len (length Meta1.magic)) _ mark);
-          order-is = ordered (not-false _ (or-right (ltb len 8) _ order));
-          format = not-false _ format;
-          blocksize = not-false _ blocksize;
-          tasks = not-false _ tasks;
-          files-are = within-one _ _ (not-false _ files);
-          file-number-is = within-one _ _ (not-false _ fileNumber);
-          long = ltb-false _ _ long;
-          ranks = ranks-hold ranks;
-          sizes = sizes-hold sizes;
+          front = record {
+            magic-is = not-false _ (or-right (ltb len (length Meta1.magic)) _ mark);
+            order-is = ordered (not-false _ (or-right (ltb len 8) _ order));
+            format = not-false _ format;
+            blocksize = not-false _ blocksize;
+            tasks = not-false _ tasks;
+            files-are = within-one _ _ (not-false _ files);
+            file-number-is = within-one _ _ (not-false _ fileNumber);
+            long = ltb-false _ _ long;
+            ranks = ranks-hold ranks;
+            sizes = sizes-hold sizes;
+          };
           maxchunks = not-false _ maxchunks;
           start-is = within-one _ _ (not-false _ place);
           fits = ltb-false _ _ fits;
         }
 
     -- META2 never starts at 0
-    start-some : Meta1Holds xs len → 0 < meta2In xs
+    start-some : FrontHolds xs len → 0 < meta2In xs
     unfolding headIn meta2In meta2At meta2Start meta1End
     start-some h =
         let b : ℕ = natural (Meta1.blocksizeField (bigIn xs) xs) in
         let some : 0 < b = omega (arith, blocksize-natural _ (h .blocksize) .1) in
         omega (arith, meta1-before-data b (tasksIn xs) some)
 
-    pub meta1-passes : Meta1Holds xs len → firstFailing (meta1Tests xs len) ≡ 0
-    unfolding meta1Tests startTests fieldTests fixedTests lastTests restTests meta1End
-    meta1-passes h =
-        let start : ℕ = meta2In xs in
+    -- where the fields before the last two keep their rules, the last two are asked
+    pub front-passes : FrontHolds xs len → firstFailing (meta1Tests xs len) ≡ firstFailing (lastTests xs len)
+    unfolding meta1Tests startTests fieldTests fixedTests restTests meta1End
+    front-passes h =
         let mark = or-both (le-ltb len (length Meta1.magic) (omega arith)) (ap not (h .magic-is)) in
         let order = or-both (le-ltb len 8 (omega arith)) (ap not (ordered-holds (h .order-is))) in
         let short = le-ltb len Meta1.fixedLength (omega arith) in
         let files = ap (λ (z : ℤ). not (is Meta1.fileCount z)) (h .files-are) in
         let fileNumber = ap (λ (z : ℤ). not (is Meta1.fileNumber z)) (h .file-number-is) in
         let long = le-ltb len (meta1End (tasksIn xs)) (h .long) in
-        let closed = ap (is 0) (h .start-is) ∙ within-over 0 0 start (start-some h) in
-        let place = ap (λ (z : ℤ). not (is start z)) (h .start-is) ∙ ap not (is-refl start) in
-        let fits = le-ltb len (endAt (headIn xs) (sizeIn xs) (maxchunksIn xs)) (h .fits) in
         first-passes (fixedTests xs len) _ fixed-numbered
         (all-pass (fixedTests xs len)
         (mark, (order, (short, (ap not (h .format), (ap not (h .blocksize), (ap not (h .tasks), (files, (fileNumber, (long, tt))))))))))
         ∙ first-passes (rankTests xs) _ rank-numbered (ranks-pass (h .ranks))
         ∙ first-passes (requestedTests xs) _ size-numbered (sizes-pass (h .sizes))
+
+    pub meta1-passes : Meta1Holds xs len → firstFailing (meta1Tests xs len) ≡ 0
+    unfolding lastTests
+    meta1-passes h =
+        let start : ℕ = meta2In xs in
+        let closed = ap (is 0) (h .start-is) ∙ within-over 0 0 start (start-some (h .front)) in
+        let place = ap (λ (z : ℤ). not (is start z)) (h .start-is) ∙ ap not (is-refl start) in
+        let fits = le-ltb len (endAt (headIn xs) (sizeIn xs) (maxchunksIn xs)) (h .fits) in
+        front-passes (h .front)
         ∙ all-pass (lastTests xs len) (closed, (ap not (h .maxchunks), (place, (fits, tt))))
 
 -- the fields are numbers in their ranges
-module _ {xs : List ℕ} {len : ℕ} (h : Meta1Holds xs len) where
+module _ {xs : List ℕ} {len : ℕ} (h : FrontHolds xs len) where
   pub format-in : InRange plainFormat idleFormat (Meta1.formatField (bigIn xs) xs)
   format-in = format-natural _ (h .format)
 
@@ -217,9 +229,9 @@ module _ {xs : List ℕ} {len : ℕ} (h : Meta1Holds xs len) where
   pub size-in : (i : ℕ) → i < tasksIn xs → InRange 1 maxSize (Meta1.sizeField (bigIn xs) xs (tasksIn xs) i)
   size-in i l = within-natural 1 maxSize _ (sizes-within (tasksIn xs) (Meta1.sizeField (bigIn xs) xs (tasksIn xs)) (h .sizes) i l)
 
-  pub maxchunks-in : InRange 0 maxBlocks (Meta1.maxchunksField (bigIn xs) xs (tasksIn xs))
-  unfolding maxchunksRule
-  maxchunks-in = within-natural 0 maxBlocks _ (h .maxchunks)
+pub maxchunks-in : {xs : List ℕ} {len : ℕ} → Meta1Holds xs len → InRange 0 maxBlocks (Meta1.maxchunksField (bigIn xs) xs (tasksIn xs))
+unfolding maxchunksRule
+maxchunks-in h = within-natural 0 maxBlocks _ (h .maxchunks)
 
 -- ---- META2
 

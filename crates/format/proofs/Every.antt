@@ -15,26 +15,26 @@ use Rattle.lists.proofs.Below.{length-list, getD-list}
 use Rattle.endian.proofs.Signed.{within-holds}
 use Rattle.lists.proofs.Splice.{length-splice, getD-splice-in, getD-splice-out}
 use Rattle.format.specs.Limits.{maxTasks, maxBlocks, maxchunksRule}
-use Rattle.format.specs.Layout.{meta1End, meta2Start, meta2End}
+use Rattle.format.specs.Layout.{meta2End}
 use Rattle.format.specs.declared.head.Head.{Head}
 use Rattle.format.specs.Meta1
 use Rattle.format.specs.Meta2
-use Rattle.format.specs.Record.{cell, listsOf, orderOf, holds, headOf, meta2At, endAt}
-use Rattle.format.specs.Judge.{bigIn, tasksIn, maxchunksIn, headIn, rankIn, sizeIn, meta2In, countIn, valuesIn}
+use Rattle.format.specs.Record.{cell, listsOf, orderOf, holds, headOf, endAt}
+use Rattle.format.specs.Judge.{maxchunksIn, headIn, rankIn, sizeIn, countIn, valuesIn}
 use Rattle.format.specs.Refusals.{noFault}
 use Rattle.format.proofs.Refusals.{when-accepted}
 use Rattle.format.proofs.Rules.{counts-hold, values-hold, values-agree, valueIndex-lt}
 use Rattle.format.proofs.Stripes.{length-lists, lists-agree, rank-at, size-at, count-at, rank-made, size-made, count-made, rank-past, size-past, count-past}
-use Rattle.format.proofs.Formats.{format-kept, idle-least}
-use Rattle.format.proofs.Record.{isBig-order, holds-agree, meta2At-agree, endAt-agree}
-use Rattle.format.proofs.Accepting.{Meta1Holds, magic-holds, order-forced, Meta2Holds}
+use Rattle.format.proofs.Formats.{idle-least}
+use Rattle.format.proofs.Record.{isBig-order, holds-agree, endAt-agree}
+use Rattle.format.proofs.Accepting.{Meta1Holds, Meta2Holds}
 use Rattle.format.specs.declared.loaded.Loaded.{Loaded}
 use Rattle.format.specs.declared.loaded.LoadAnswer.{LoadAnswer}
 use Rattle.format.specs.Loaded.{loadedOf}
 use Rattle.format.specs.Container.{Contents, HasMeta1, HasMeta2, meta2Said, valueOf, Lists, Recorded, Says, HeadSays}
 use Rattle.format.specs.Load.{meta2Bytes, loadedIn, listsIn, loadRefusal, checkAnswer, loadAnswer, loadTable}
 use Rattle.format.proofs.LoadTests.{load-holds, load-passes}
-use Rattle.format.proofs.InBounds.{block-kept, tasks-kept, ranks-kept, sizes-kept}
+use Rattle.format.proofs.Fronts.{FrontSays, big-is, tasks-is, size-is, maxchunks-said, start-said, front-holds}
 
 abbrev pub headSaid : Contents → Head
 headSaid s = headOf (orderOf (s .big)) (s .version) (s .patch) (s .format) (s .blocksize) (s .n)
@@ -103,48 +103,48 @@ module _ (image : List ℕ) (s : Contents) (one : HasMeta1 image s) (two : HasMe
 
   -- ---- what is read of the image is what it says
 
-  big-is : bigIn image ≡ s .big
-  unfolding meta1End
-  big-is = order-forced image (s .big) (omega (arith, one .long)) (one .order-is)
-
-  tasks-is : tasksIn image ≡ s .n
-  unfolding tasksIn
-  tasks-is = rw big-is (ap natural (one .tasks-are))
+  -- its fields before the last two hold what it says of them
+  front : FrontSays image (s .big) (s .format) (s .blocksize) (s .n) (s .rank) (s .size)
+  front = record {
+    bounds = one .bounds;
+    long = one .long;
+    magic-is = one .magic-is;
+    order-is = one .order-is;
+    format-is = one .format-is;
+    format-known = one .format-known;
+    blocksize-is = one .blocksize-is;
+    tasks-are = one .tasks-are;
+    files-are = one .files-are;
+    file-number-is = one .file-number-is;
+    ranks-are = one .ranks-are;
+    sizes-are = one .sizes-are;
+  }
 
   maxchunks-is : maxchunksIn image ≡ s .maxchunks
-  unfolding maxchunksIn
-  maxchunks-is = rw (big-is, tasks-is) (ap natural (one .maxchunks-is))
+  maxchunks-is = maxchunks-said front (one .maxchunks-is)
 
   rank-is : (i : ℕ) → i < s .n → rankIn image i ≡ s .rank i
   unfolding rankIn
-  rank-is i l = rw big-is (ap natural (one .ranks-are i l))
-
-  size-is : (i : ℕ) → i < s .n → sizeIn image i ≡ s .size i
-  unfolding sizeIn
-  size-is i l = rw (big-is, tasks-is) (ap natural (one .sizes-are i l))
+  rank-is i l = rw (big-is front) (ap natural (one .ranks-are i l))
 
   head-is : headIn image ≡ headSaid s
   unfolding headIn
   head-is = λ i. record {
-    order = orderOf (big-is i);
-    version = (ap (λ (b : Bool). Meta1.versionField b image) big-is ∙ one .version-is) i;
-    patch = (ap (λ (b : Bool). Meta1.patchField b image) big-is ∙ one .patch-is) i;
-    format = ap natural (ap (λ (b : Bool). Meta1.formatField b image) big-is ∙ one .format-is) i;
-    blocksize = ap natural (ap (λ (b : Bool). Meta1.blocksizeField b image) big-is ∙ one .blocksize-is) i;
-    n = tasks-is i;
+    order = orderOf (big-is front i);
+    version = (ap (λ (b : Bool). Meta1.versionField b image) (big-is front) ∙ one .version-is) i;
+    patch = (ap (λ (b : Bool). Meta1.patchField b image) (big-is front) ∙ one .patch-is) i;
+    format = ap natural (ap (λ (b : Bool). Meta1.formatField b image) (big-is front) ∙ one .format-is) i;
+    blocksize = ap natural (ap (λ (b : Bool). Meta1.blocksizeField b image) (big-is front) ∙ one .blocksize-is) i;
+    n = tasks-is front i;
   }
-
-  start-said : meta2In image ≡ meta2Start (s .blocksize) (s .n) (s .size) (s .maxchunks)
-  unfolding meta2In meta2At
-  start-said = rw (head-is, maxchunks-is) (meta2At-agree (headSaid s) (sizeIn image) (s .size) size-is (s .maxchunks))
 
   end-said : endAt (headIn image) (sizeIn image) (maxchunksIn image) ≡ meta2End (s .blocksize) (s .n) (s .size) (s .maxchunks)
   unfolding endAt
-  end-said = rw (head-is, maxchunks-is) (endAt-agree (headSaid s) (sizeIn image) (s .size) size-is (s .maxchunks))
+  end-said = rw (head-is, maxchunks-is) (endAt-agree (headSaid s) (sizeIn image) (s .size) (size-is front) (s .maxchunks))
 
   part-is : meta2Bytes image ≡ meta2Said image s
   unfolding meta2Bytes
-  part-is = rw (tasks-is, maxchunks-is, start-said)
+  part-is = rw (tasks-is front, maxchunks-is, start-said front (one .maxchunks-is))
 
   count-is : (i : ℕ) → i < s .n → countIn (headSaid s) (meta2Said image s) i ≡ s .count i
   unfolding countIn
@@ -154,18 +154,9 @@ module _ (image : List ℕ) (s : Contents) (one : HasMeta1 image s) (two : HasMe
 
   first-holds : Meta1Holds image (length image)
   first-holds = record {
-    magic-is = magic-holds image (one .magic-is);
-    order-is = rw big-is (one .order-is);
-    format = rw (big-is, one .format-is) (format-kept (one .format-known));
-    blocksize = rw (big-is, one .blocksize-is) (block-kept (one .bounds));
-    tasks = rw (big-is, one .tasks-are) (tasks-kept (one .bounds));
-    files-are = rw big-is (one .files-are);
-    file-number-is = rw big-is (one .file-number-is);
-    long = rw tasks-is (one .long);
-    ranks = rw (big-is, tasks-is) (ranks-kept (one .bounds) _ (one .ranks-are));
-    sizes = rw (big-is, tasks-is) (sizes-kept (one .bounds) _ (one .sizes-are));
-    maxchunks = rw (big-is, tasks-is, one .maxchunks-is) maxchunks-kept;
-    start-is = rw (big-is, tasks-is, start-said) (one .start-is);
+    front = front-holds front;
+    maxchunks = rw (big-is front, tasks-is front, one .maxchunks-is) maxchunks-kept;
+    start-is = rw (big-is front, tasks-is front, start-said front (one .maxchunks-is)) (one .start-is);
     fits = rw end-said (two .fits);
   }
 
@@ -173,14 +164,14 @@ module _ (image : List ℕ) (s : Contents) (one : HasMeta1 image s) (two : HasMe
   second-holds = record {
     counts = rw (isBig-order (s .big)) (counts-kept _ (two .counts-are));
     values =
-        values-agree (s .n) (s .maxchunks) _ _ _ _ _ _ (holds-agree (headSaid s) (sizeIn image) (s .size) size-is) (λ i l. refl) (λ j l. refl)
+        values-agree (s .n) (s .maxchunks) _ _ _ _ _ _ (holds-agree (headSaid s) (sizeIn image) (s .size) (size-is front)) (λ i l. refl) (λ j l. refl)
         ∙ rw (isBig-order (s .big)) (values-kept _ _ count-is (two .used-first) (two .others-unused));
   }
 
   pub every : (cells : ℕ) → s .n * s .maxchunks ≤ cells → loadRefusal image cells ≡ 0
   every cells table-long = load-passes image cells (record {
     first = first-holds;
-    table-long = rw (tasks-is, maxchunks-is) table-long;
+    table-long = rw (tasks-is front, maxchunks-is) table-long;
     second = rw (head-is, maxchunks-is, part-is) second-holds;
   })
 
@@ -206,14 +197,14 @@ module _ (image : List ℕ) (s : Contents) (one : HasMeta1 image s) (two : HasMe
     unfolding listsIn
     lists-are =
         ap (λ (a : LoadAnswer). a .lists) answer-is
-        ∙ rw (tasks-is, head-is, part-is) (lists-agree (s .n) _ _ _ _ _ _ rank-is size-is count-is)
+        ∙ rw (tasks-is front, head-is, part-is) (lists-agree (s .n) _ _ _ _ _ _ rank-is (size-is front) count-is)
 
     table-is : loadTable image table ≡ splice table 0 values
     unfolding loadTable
     table-is = when-accepted _ _ _ accepted ∙ ap (splice table 0) (rw (head-is, maxchunks-is, part-is) values-said)
 
     pub table-long : s .n * s .maxchunks ≤ length table
-    table-long = rw (tasks-is, maxchunks-is) at (load-holds image (length table) accepted .table-long)
+    table-long = rw (tasks-is front, maxchunks-is) at (load-holds image (length table) accepted .table-long)
 
     fits : 0 + length values ≤ length table
     fits = rw (zero-add, length-list) table-long

@@ -27,8 +27,13 @@ pub mod Readable
 pub mod Stream
 pub mod Fields
 pub mod InBounds
+pub mod Fronts
+pub mod Unclosed
 pub mod Judging
 pub mod Opens
 pub mod Only
 pub mod Every
 pub mod Places
+pub mod Moments
+pub mod Storing
+pub mod LastStores

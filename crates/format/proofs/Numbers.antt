@@ -8,18 +8,19 @@ use borrow.Author.Tests.{lt-ltb, ne-eqb}
 use mathlib.Core.List.{flatten}
 use Rattle.lists.specs.Below.{allBelow, anyBelow, sumBelow, greatestBelow, joinBelow}
 use Rattle.lists.specs.Splice.{splice}
+use Rattle.lists.specs.Stores.{applied}
 use Rattle.format.specs.Limits.{formatRule, tasksRule, powerOfTwo, blocksizeRule, sizesRule, plannedRule, maxchunksRule, isNew, rankRule, allDifferent, ranksRule}
 use Rattle.format.specs.Layout.{meta1End, roundUp, dataStart, extended, capacity, extendedBefore, globalskip, chunkStart, meta2Start, meta2Length, meta2End}
 use Rattle.format.specs.Refusals.{firstFailing, firstFault}
-use Rattle.format.specs.Meta1.{lastFields, meta1Front, meta1, openingBytes}
+use Rattle.format.specs.Meta1.{lastFields, meta1Front, meta1, openingBytes, openingStores}
 use Rattle.format.specs.Meta2.{valueRule, valuesRule, leastCount, countsRule, meta2}
 use Rattle.format.specs.Record.{filled, listsOf, holds, startOf, meta2At, endAt, headSound, tooShort, cellsAgree, recordTests, isTask}
 use Rattle.format.specs.Loaded.{loadedSound}
 use Rattle.format.proofs.Answers.{answer-long}
 use Rattle.format.specs.Session.{State, sessionSound, sessionTests}
-use Rattle.format.specs.Open.{shapeTests, numberTests, planTests, needsAnswer, openRefusal, opens, openHead, openSession, openLists, blankCells, openAnswer, openImage, openTable}
+use Rattle.format.specs.Open.{shapeTests, numberTests, planTests, needsAnswer, openRefusal, opens, openHead, openSession, openLists, blankCells, openAnswer, openStores, openImage, openTable}
 use Rattle.format.specs.Write.{Request, begun, inLast, capacityOf, spot, target, requestTests, writeRefusal, stored, afterWrite}
-use Rattle.format.specs.Close.{maxchunksOf, finished, closedImage, closeRefusal, closeAnswer, closeImage}
+use Rattle.format.specs.Close.{maxchunksOf, closingStores, closeRefusal, closeAnswer, closeStores, closeImage}
 use Rattle.format.specs.Judge.{magicIn, bigIn, orderedIn, tasksIn, maxchunksIn, headIn, rankIn, sizeIn, meta2In, startTests, fieldTests, fixedTests, rankTests, requestedTests, lastTests, restTests, meta1Tests, countIn, valuesIn, countTests, greatestTest, valueTest, valueTests, countsTests, meta2Tests}
 use Rattle.format.specs.Load.{meta2Bytes, loadedIn, listsIn, loadTests, loadRefusal, loadFault, checkAnswer, loadAnswer, loadTable}
 use Rattle.format.specs.Reads.{loadedTests, readTests, chunksUsed, writtenIn, chunkBytes, chunkRefusal, chunkPart, chunkPlace, partAnswer, streamOf, totalOf, totalAnswer, readRefusal, readAnswer, readOutput}
@@ -38,8 +39,8 @@ unfolding allBelow anyBelow sumBelow greatestBelow joinBelow flatten splice form
     maxchunksRule isNew allDifferent rankRule ranksRule meta1End roundUp dataStart extended capacity extendedBefore globalskip chunkStart
     meta2Start meta2Length meta2End firstFailing firstFault lastFields meta1Front meta1 openingBytes valueRule valuesRule leastCount countsRule meta2 filled listsOf headSound
     sessionSound loadedSound tooShort cellsAgree recordTests shapeTests numberTests planTests holds startOf meta2At endAt needsAnswer openRefusal opens openHead openSession openLists blankCells
-    openAnswer openImage openTable sessionTests begun inLast capacityOf spot target requestTests stored maxchunksOf finished
-    closedImage writeRefusal afterWrite closeRefusal closeAnswer closeImage magicIn bigIn orderedIn tasksIn maxchunksIn headIn rankIn sizeIn meta2In
+    openAnswer openingStores openStores openImage openTable sessionTests begun inLast capacityOf spot target requestTests stored maxchunksOf closingStores closeStores
+    applied writeRefusal afterWrite closeRefusal closeAnswer closeImage magicIn bigIn orderedIn tasksIn maxchunksIn headIn rankIn sizeIn meta2In
     startTests fieldTests fixedTests rankTests requestedTests lastTests restTests meta1Tests countIn valuesIn countTests greatestTest valueTest valueTests countsTests meta2Tests meta2Bytes loadedIn listsIn loadTests loadRefusal loadFault checkAnswer loadAnswer loadTable loadedTests readTests chunksUsed writtenIn chunkBytes
     chunkRefusal chunkPart chunkPlace partAnswer streamOf totalOf totalAnswer readRefusal readAnswer readOutput sizeTests chunkSizeAnswer beforeZero wholeRefusal lengthAnswer prefixAnswer outcome feed pTable otherTable
 number-tables = (
@@ -52,8 +53,8 @@ unfolding allBelow anyBelow sumBelow greatestBelow joinBelow flatten splice form
     maxchunksRule isNew allDifferent rankRule ranksRule meta1End roundUp dataStart extended capacity extendedBefore globalskip chunkStart
     meta2Start meta2Length meta2End firstFailing firstFault lastFields meta1Front meta1 openingBytes valueRule valuesRule leastCount countsRule meta2 filled listsOf headSound
     sessionSound loadedSound tooShort cellsAgree recordTests shapeTests numberTests planTests holds startOf meta2At endAt openRefusal opens openHead openSession openLists blankCells
-    openAnswer openImage openTable sessionTests begun inLast capacityOf spot target requestTests stored maxchunksOf finished
-    closedImage writeRefusal afterWrite closeRefusal closeAnswer closeImage magicIn bigIn orderedIn tasksIn maxchunksIn headIn rankIn sizeIn meta2In
+    openAnswer openingStores openStores openImage openTable sessionTests begun inLast capacityOf spot target requestTests stored maxchunksOf closingStores closeStores
+    applied writeRefusal afterWrite closeRefusal closeAnswer closeImage magicIn bigIn orderedIn tasksIn maxchunksIn headIn rankIn sizeIn meta2In
     startTests fieldTests fixedTests rankTests requestedTests lastTests restTests meta1Tests countIn valuesIn countTests greatestTest valueTest valueTests countsTests meta2Tests meta2Bytes loadedIn listsIn loadTests loadRefusal loadFault checkAnswer loadAnswer loadTable loadedTests readTests chunksUsed writtenIn
     chunkRefusal totalOf totalAnswer readRefusal orderTable byteTable totalsOf loaded rest containerLine lineOf lineTable
 text-tables = (
@@ -68,8 +69,8 @@ unfolding allBelow anyBelow sumBelow greatestBelow joinBelow flatten splice form
     maxchunksRule isNew allDifferent rankRule ranksRule meta1End roundUp dataStart extended capacity extendedBefore globalskip chunkStart
     meta2Start meta2Length meta2End firstFailing firstFault lastFields meta1Front meta1 openingBytes valueRule valuesRule leastCount countsRule meta2 filled listsOf headSound
     sessionSound loadedSound tooShort cellsAgree recordTests shapeTests numberTests planTests holds startOf meta2At endAt openRefusal opens openHead openSession openLists blankCells
-    openAnswer openImage openTable sessionTests begun inLast capacityOf spot target requestTests stored maxchunksOf finished
-    closedImage writeRefusal afterWrite closeRefusal closeAnswer closeImage magicIn bigIn orderedIn tasksIn maxchunksIn headIn rankIn sizeIn meta2In
+    openAnswer openingStores openStores openImage openTable sessionTests begun inLast capacityOf spot target requestTests stored maxchunksOf closingStores closeStores
+    applied writeRefusal afterWrite closeRefusal closeAnswer closeImage magicIn bigIn orderedIn tasksIn maxchunksIn headIn rankIn sizeIn meta2In
     startTests fieldTests fixedTests rankTests requestedTests lastTests restTests meta1Tests countIn valuesIn countTests greatestTest valueTest valueTests countsTests meta2Tests meta2Bytes loadedIn listsIn loadTests loadRefusal loadFault checkAnswer loadAnswer loadTable loadedTests readTests chunksUsed writtenIn
     totalOf totalAnswer totalsOf loaded rest containerLine lineOf countBy outcome feed idleTable
 idle-table = (refl, (refl, (refl, (refl, (refl, (refl, (refl, (refl, (refl, (refl, (refl, (refl, (refl, (refl, (refl, tt)))))))))))))))

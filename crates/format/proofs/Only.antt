@@ -18,7 +18,7 @@ use Rattle.format.specs.Judge.{bigIn, tasksIn, maxchunksIn, headIn, rank
 use Rattle.format.proofs.Rules.{ranks-differ, counts-within, counts-greatest, values-used, values-unused}
 use Rattle.format.proofs.Formats.{format-known, least-idle}
 use Rattle.format.proofs.Record.{isBig-order}
-use Rattle.format.proofs.Accepting.{Meta1Holds, magic-there, Meta2Holds, format-in, block-in, tasks-in, rank-in, size-in, maxchunks-in}
+use Rattle.format.proofs.Accepting.{FrontHolds, Meta1Holds, magic-there, Meta2Holds, format-in, block-in, tasks-in, rank-in, size-in, maxchunks-in}
 use Rattle.format.specs.Container.{Contents, InBounds, HasMeta1, HasMeta2, IsContainer, meta2Said}
 use Rattle.format.specs.Load.{meta2Bytes, loadRefusal}
 use Rattle.format.proofs.LoadTests.{load-holds}
@@ -41,20 +41,23 @@ contentsIn image = record {
 }
 
 module _ (image : List ℕ) (first : Meta1Holds image (length image)) where
+  abbrev front : FrontHolds image (length image)
+  front = first .front
+
   bounds-in : InBounds (contentsIn image .blocksize) (tasksIn image) (rankIn image) (sizeIn image)
   unfolding tasksIn rankIn sizeIn
   bounds-in =
-      let rule : blocksizeRule (pos (contentsIn image .blocksize)) ≡ true = rw (block-in first .0) at (first .blocksize) in
+      let rule : blocksizeRule (pos (contentsIn image .blocksize)) ≡ true = rw (block-in front .0) at (front .blocksize) in
       record {
         blocksize-power = power-of-two _ (blocksize-facts _ rule .2);
-        blocksize-range = (block-in first .1, block-in first .2);
-        tasks-range = (tasks-in first .1, tasks-in first .2);
-        ranks-range = λ i l. rank-in first i l .2;
+        blocksize-range = (block-in front .1, block-in front .2);
+        tasks-range = (tasks-in front .1, tasks-in front .2);
+        ranks-range = λ i l. rank-in front i l .2;
         ranks-differ =
             λ i j l h same.
-            ranks-differ (tasksIn image) (Meta1.rankField (bigIn image) image) (first .ranks) i j l h
-            (rank-in first i l .0 ∙ ap pos same ∙ sym (rank-in first j h .0));
-        sizes-range = λ i l. (size-in first i l .1, size-in first i l .2);
+            ranks-differ (tasksIn image) (Meta1.rankField (bigIn image) image) (front .ranks) i j l h
+            (rank-in front i l .0 ∙ ap pos same ∙ sym (rank-in front j h .0));
+        sizes-range = λ i l. (size-in front i l .1, size-in front i l .2);
       }
 
   has-meta1 : HasMeta1 image (contentsIn image)
@@ -62,19 +65,19 @@ module _ (image : List ℕ) (first : Meta1Holds image (length image)) where
   has-meta1 =
       record {
         bounds = bounds-in;
-        long = first .long;
-        magic-is = magic-there image (omega (arith, first .long)) (first .magic-is);
-        order-is = first .order-is;
+        long = front .long;
+        magic-is = magic-there image (omega (arith, front .long)) (front .magic-is);
+        order-is = front .order-is;
         version-is = refl;
         patch-is = refl;
-        format-is = format-in first .0;
-        format-known = format-known (rw (format-in first .0) at (first .format));
-        blocksize-is = block-in first .0;
-        tasks-are = tasks-in first .0;
-        files-are = first .files-are;
-        file-number-is = first .file-number-is;
-        ranks-are = λ i l. rank-in first i l .0;
-        sizes-are = λ i l. size-in first i l .0;
+        format-is = format-in front .0;
+        format-known = format-known (rw (format-in front .0) at (front .format));
+        blocksize-is = block-in front .0;
+        tasks-are = tasks-in front .0;
+        files-are = front .files-are;
+        file-number-is = front .file-number-is;
+        ranks-are = λ i l. rank-in front i l .0;
+        sizes-are = λ i l. size-in front i l .0;
         maxchunks-is = maxchunks-in first .0;
         maxchunks-range = maxchunks-in first .2;
         start-is = first .start-is;
@@ -126,7 +129,7 @@ module _ (image : List ℕ) (first : Meta1Holds image (length image)) where
       counts-are = λ i l. rw part-in (count-in i l .0);
       counts-range = λ i l. count-in i l .2;
       counts-idle = λ four i l. least-idle (count-in i l .1) four;
-      greatest = counts-greatest _ _ _ (Meta2.countField (bigIn image) (meta2Bytes image)) counts-in (tasks-in first .1);
+      greatest = counts-greatest _ _ _ (Meta2.countField (bigIn image) (meta2Bytes image)) counts-in (tasks-in front .1);
       used-first = λ i k l u. rw part-in (used-in i k l u .0);
       used-fit = λ i k l u. used-in i k l u .2;
       others-unused = λ i k l u h. rw part-in (values-unused _ _ _ _ _ values-in i k l h u);

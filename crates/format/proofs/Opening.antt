@@ -1,7 +1,7 @@
 -- The tests of an opening as facts: what holds of its arguments where they pass, that its head is then sound, and what it leaves.
 use mathlib.Core.Path.{_≡_, refl, sym, ap, subst, _∙_}
 use mathlib.Core.Bool.{Bool, true, false, not, _||_}
-use mathlib.Core.List.{List, [], _∷_}
+use mathlib.Core.List.{List, [], _∷_, flatten}
 use mathlib.Core.Logic.{_⊎_, inl, inr}
 use Prim.Native.Nat.{ℕ, _*_, _≤_, _<_}
 use native.Mathlib.Omega.{arith}
@@ -10,20 +10,24 @@ use lib.IntN.{ℤ, pos}
 use lib.ListN.{length}
 use borrow.Author.Tests.{lt-ltb, le-ltb, ltb-false, eqb-true, not-false}
 use Rattle.lists.specs.Splice.{splice}
+use Rattle.lists.specs.Stores.{applied}
 use Rattle.lists.proofs.Below.{or-left, or-right}
+use Rattle.lists.proofs.Stores.{applied-around}
 use Rattle.endian.proofs.Signed.{within-facts}
 use Rattle.format.specs.Limits.{maxTasks, maxBlocks, Sound, formatRule, blocksizeRule, tasksRule, ranksRule, sizesRule, plannedRule}
-use Rattle.format.specs.Layout.{dataStart, meta2Start, meta2End}
+use Rattle.format.specs.Layout.{meta1End, dataStart, meta2Start, meta2End}
 use Rattle.format.specs.Refusals.{Test, test, firstFailing}
-use Rattle.format.specs.Meta1.{prefixLength, openingBytes}
+use Rattle.format.specs.Meta1.{prefixLength, meta1Front, meta1, openingBytes, openingStores}
 use Rattle.format.specs.Meta2.{leastCount}
 use Rattle.format.specs.Record.{entry, rankOf, sizeOf, noLists, isOrder, headSound, tooShort, endAt}
 use Rattle.format.proofs.Refusals.{Numbered, first-passes, first-fails, both-pass, none-fails, when-accepted, when-refused, number-is}
+use Rattle.format.proofs.Chunks.{meta1-before-data}
 use Rattle.format.proofs.Fields.{tasks-facts}
+use Rattle.format.proofs.Power.{blocksize-facts}
 use Rattle.format.proofs.Filled.{filled-list}
 use Rattle.format.proofs.Stripes.{ranks-made, sizes-made}
 use Rattle.format.specs.declared.session.Needed.{Needed}
-use Rattle.format.specs.Open.{Opening, tasks, shapeTests, numberTests, planTests, needsAnswer, openRefusal, openHead, openSession, openLists, blankCells, opens, openAnswer, openImage, openTable}
+use Rattle.format.specs.Open.{Opening, tasks, shapeTests, numberTests, planTests, needsAnswer, openRefusal, openHead, openSession, openLists, blankCells, opens, openAnswer, openStores, openImage, openTable}
 use Rattle.format.specs.Session.{noSession}
 
 -- the first of them alone: as many sizes as ranks
@@ -102,6 +106,10 @@ module _ (o : Opening) where
   -- the numbers that the layout's functions ask for
   pub plan-sound : PlanHolds o → Sound (o .plan .blocksize) (tasks o) (o .sizes)
   plan-sound p = record { block = p .block; tasks = p .few-tasks; listed = omega (arith, p .listed); sized = p .sized }
+
+  -- META1 ends before D
+  pub plan-data : PlanHolds o → meta1End (tasks o) ≤ dataStart (o .plan .blocksize) (tasks o)
+  plan-data p = let f = blocksize-facts (o .plan .blocksize) (p .block) in meta1-before-data (o .plan .blocksize) (tasks o) (omega arith)
 
   pub opening-holds : (imageLength cells : ℕ) → openRefusal o imageLength cells ≡ 0 → OpeningHolds o imageLength cells
   unfolding openRefusal openHead endAt tooShort
@@ -196,8 +204,8 @@ module _ (o : Opening) where
     opened-lists = rw opened-answer
 
     pub opened-image : openImage o image table ≡ splice image 0 (openingBytes (openHead o) (entry (o .ranks)) (entry (o .sizes)) (o .prefix))
-    unfolding openImage opens
-    opened-image = rw accepted
+    unfolding openImage openStores opens openingStores openingBytes meta1 meta1Front flatten
+    opened-image = rw accepted (applied-around image 0 _ _)
 
     pub opened-table : openTable o image table ≡ splice table 0 (blankCells (leastCount (o .plan .format)) (tasks o) (o .plan .planned))
     unfolding openTable opens
@@ -211,8 +219,8 @@ module _ (o : Opening) where
     refused-answer = when-refused _ _ _ refused
 
     pub refused-image : openImage o image table ≡ image
-    unfolding openImage opens
-    refused-image = when-refused _ _ _ refused
+    unfolding openImage openStores opens applied
+    refused-image = ap (applied image) (when-refused _ _ _ refused)
 
     pub refused-table : openTable o image table ≡ table
     unfolding openTable opens

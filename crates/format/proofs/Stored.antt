@@ -1,14 +1,15 @@
--- What is stored is read back: each field of META1 from an image that starts with it, and each number of META2.
+-- What is stored is read back: each field of META1 before the last two from an image that starts with them, these two where they stand, and each
+-- number of META2.
 use mathlib.Core.Path.{_≡_, refl, sym, ap, ap₂, _∙_}
-use mathlib.Core.Bool.{Bool}
+use mathlib.Core.Bool.{Bool, true, false}
 use mathlib.Core.List.{List, [], _∷_, _++_, flatten, append-assoc, append-nil}
 use Prim.Native.Nat.{ℕ, _+_, _*_, _^_, _<_, _≤_}
 use native.Mathlib.Nat.{zero-add}
 use native.Mathlib.Omega.{arith}
 use lib.Dec.{lit<}
 use lib.IntN.{ℤ, pos}
-use lib.ListN.{length, take, drop, length-append, length-replicate, take-append-drop}
-use lib.Seq.{take-at, drop-at}
+use lib.ListN.{length, take, drop, replicate, length-append, length-replicate, take-append-drop}
+use lib.Seq.{take-at, drop-at, drop-drop}
 use lib.Signed.{mag}
 use Rattle.lists.specs.Below.{joinBelow}
 use Rattle.endian.specs.Signed.{signBit, signedAt, signedDigits}
@@ -71,40 +72,46 @@ unfolding Meta1.openingBytes Meta1.meta1
 opening-front h rank size prefix short =
     rw append-assoc (take-at (Meta1.meta1Front h rank size prefix) _ (Meta1.lastAt (h .n)) (length-front h rank size prefix short))
 
--- META1 and what follows it, in pieces
-abbrev pieces : Head → (ℕ → ℕ) → (ℕ → ℕ) → List ℕ → ℕ → ℕ → List ℕ → List (List ℕ)
-pieces h rank size prefix maxchunks start after =
-    Meta1.frontFields h rank size prefix ++ (signedDigits (isBig h) 4 (pos maxchunks) ∷ signedDigits (isBig h) 8 (pos start) ∷ after ∷ [])
+-- and start_of_varheader is 0
+pub opening-start : (h : Head) (rank size : ℕ → ℕ) (prefix : List ℕ) → length prefix ≤ Meta1.prefixLength
+    → take 8 (drop (Meta1.startAt (h .n)) (Meta1.openingBytes h rank size prefix)) ≡ replicate 8 0
+unfolding Meta1.openingBytes Meta1.meta1 Meta1.lastFields
+opening-start h rank size prefix short =
+    ap (take 8)
+    (sym (drop-drop 4 (Meta1.lastAt (h .n)) _)
+    ∙ ap (drop 4)
+    (ap (drop (Meta1.lastAt (h .n))) (append-assoc (Meta1.meta1Front h rank size prefix) _ _)
+    ∙ drop-at (Meta1.meta1Front h rank size prefix) _ (Meta1.lastAt (h .n)) (length-front h rank size prefix short)))
+    ∙ zeros (isBig h) _
+  where
+    zeros : (big : Bool) (after : List ℕ) → take 8 (drop 4 ((signedDigits big 4 (pos 0) ++ signedDigits big 8 (pos 0)) ++ after)) ≡ replicate 8 0
+    zeros true after = refl
+    zeros false after = refl
 
-regroup : (ps : List (List ℕ)) (m s r : List ℕ) → (flatten ps ++ (m ++ s)) ++ r ≡ flatten (ps ++ (m ∷ s ∷ r ∷ []))
-unfolding flatten
-regroup ps m s r =
-    let e : (flatten ps ++ (m ++ s)) ++ r ≡ flatten ps ++ flatten (m ∷ s ∷ r ∷ []) = simp (append-assoc, append-nil) in
-    e ∙ append-pieces ps (m ∷ s ∷ r ∷ [])
+-- ---- META1 up to its last two fields, read back from an image that starts with it
 
-module _ (h : Head) (rank size : ℕ → ℕ) (prefix : List ℕ) (maxchunks start : ℕ) (image : List ℕ)
-    (short : length prefix ≤ Meta1.prefixLength)
-    (stored : take (meta1End (h .n)) image ≡ Meta1.meta1 h rank size prefix maxchunks start) where
+module _ (h : Head) (rank size : ℕ → ℕ) (prefix : List ℕ) (image : List ℕ) (short : length prefix ≤ Meta1.prefixLength)
+    (front : take (Meta1.lastAt (h .n)) image ≡ Meta1.meta1Front h rank size prefix) where
   abbrev after : List ℕ
-  after = drop (meta1End (h .n)) image
+  after = drop (Meta1.lastAt (h .n)) image
 
+  -- its fields and what follows them, in pieces
   abbrev all : List (List ℕ)
-  all = pieces h rank size prefix maxchunks start after
+  all = Meta1.frontFields h rank size prefix ++ (after ∷ [])
 
   whole : image ≡ flatten all
-  unfolding Meta1.meta1 Meta1.meta1Front Meta1.lastFields
+  unfolding Meta1.meta1Front flatten
   whole =
-      sym (take-append-drop (meta1End (h .n)) image) ∙ ap (λ (l : List ℕ). l ++ after) stored
-      ∙ regroup (Meta1.frontFields h rank size prefix) (signedDigits (isBig h) 4 (pos maxchunks)) (signedDigits (isBig h) 8 (pos start)) after
+      let fields : List (List ℕ) = Meta1.frontFields h rank size prefix in
+      sym (take-append-drop (Meta1.lastAt (h .n)) image) ∙ ap₂ _++_ front (sym (append-nil after)) ∙ append-pieces fields (after ∷ [])
 
   -- where the first k pieces end
   abbrev end : ℕ → ℕ
-  end k = total (take k (widths (h .n) ++ (4 ∷ 8 ∷ length after ∷ [])))
+  end k = total (take k (widths (h .n) ++ (length after ∷ [])))
 
   from : (k at : ℕ) → end k ≡ at → drop at image ≡ flatten (drop k all)
   from k at e =
-      let last = more (length-digits (isBig h) 4 _) (more (length-digits (isBig h) 8 _) (more refl none)) in
-      ap (drop at) whole ∙ ap (λ (b : ℕ). drop b (flatten all)) (sym e) ∙ drop-pieces (front-widths h rank size prefix short last) k
+      ap (drop at) whole ∙ ap (λ (b : ℕ). drop b (flatten all)) (sym e) ∙ drop-pieces (front-widths h rank size prefix short (more refl none)) k
 
   -- a field that is piece k
   field : (k at w : ℕ) (z : ℤ) (others : List (List ℕ)) → end k ≡ at → drop k all ≡ signedDigits (isBig h) w z ∷ others
@@ -160,11 +167,29 @@ module _ (h : Head) (rank size : ℕ → ℕ) (prefix : List ℕ) (maxchunks sta
   pub size-back : (i : ℕ) → i < h .n → size i < 2 ^ 63 → Meta1.sizeField (isBig h) image (h .n) i ≡ pos (size i)
   size-back = listed 13 (Meta1.fixedLength + 8 * h .n) size _ (omega arith) refl
 
-  pub maxchunks-back : maxchunks < 2 ^ 31 → Meta1.maxchunksField (isBig h) image (h .n) ≡ pos maxchunks
-  maxchunks-back l = field 14 (Meta1.lastAt (h .n)) 4 (pos maxchunks) _ (omega arith) refl (lit< tt) l
+-- ---- its last two fields, read back where they stand
 
-  pub start-back : start < 2 ^ 63 → Meta1.startField (isBig h) image (h .n) ≡ pos start
-  start-back l = field 15 (Meta1.lastAt (h .n) + 4) 8 (pos start) _ (omega arith) refl (lit< tt) l
+module _ (big : Bool) (maxchunks start n : ℕ) (image : List ℕ)
+    (last : take 12 (drop (Meta1.lastAt n) image) ≡ Meta1.lastFields big maxchunks start) where
+  abbrev first : List ℕ
+  first = signedDigits big 4 (pos maxchunks)
+
+  abbrev others : List ℕ
+  others = signedDigits big 8 (pos start) ++ drop 12 (drop (Meta1.lastAt n) image)
+
+  split : drop (Meta1.lastAt n) image ≡ first ++ others
+  unfolding Meta1.lastFields
+  split =
+      let rest : List ℕ = drop 12 (drop (Meta1.lastAt n) image) in
+      sym (take-append-drop 12 (drop (Meta1.lastAt n) image)) ∙ ap (λ (l : List ℕ). l ++ rest) last ∙ append-assoc first _ rest
+
+  pub maxchunks-back : maxchunks < 2 ^ 31 → Meta1.maxchunksField big image n ≡ pos maxchunks
+  maxchunks-back l = signed-there big 4 (pos maxchunks) image others (Meta1.lastAt n) (lit< tt) split l
+
+  pub start-back : start < 2 ^ 63 → Meta1.startField big image n ≡ pos start
+  start-back l =
+      signed-there big 8 (pos start) image _ (Meta1.startAt n) (lit< tt)
+      (sym (drop-drop 4 (Meta1.lastAt n) image) ∙ ap (drop 4) split ∙ drop-at first others 4 (length-digits big 4 _)) l
 
 -- ---- META2
 

@@ -1,13 +1,13 @@
 -- Closing a session (document 01, "Closing writes META2 ..."): its tests, and what an accepted and a refused close leave. The lists and the table
 -- stay as they are in either case.
 use mathlib.Core.Bool.{cond}
-use mathlib.Core.List.{List}
+use mathlib.Core.List.{List, [], _∷_}
 use Prim.Native.Nat.{ℕ}
 use lib.Dec.{eqb}
 use lib.IntN.{ℤ}
 use lib.ListN.{length}
 use Rattle.lists.specs.Below.{greatestBelow}
-use Rattle.lists.specs.Splice.{splice}
+use Rattle.lists.specs.Stores.{Store, store, applied, found}
 use Rattle.format.specs.declared.head.Head.{Head}
 use Rattle.format.specs.declared.session.Closed.{Closed}
 use Rattle.format.specs.Refusals.{firstFailing}
@@ -24,19 +24,18 @@ maxchunksOf n lists = greatestBelow n (countOf lists)
 unfoldable pub closeRefusal : State → ℕ
 closeRefusal st = firstFailing (sessionTests st)
 
--- "Closing writes META2, maxchunks and start_of_varheader, changes no other byte": META2 of these counts and cells, in the head's order
-unfoldable pub finished : Head → List ℕ → ℕ → List ℤ → List ℕ → List ℕ
-finished h lists maxchunks table image =
-    splice (splice image (meta2At h (sizeOf lists) maxchunks) (meta2 (isBig h) (h .n) maxchunks (countOf lists) (cell table)))
-    (lastAt (h .n)) (lastFields (isBig h) maxchunks (meta2At h (sizeOf lists) maxchunks))
+-- "Closing writes META2, maxchunks and start_of_varheader, changes no other byte": META2 of these counts and cells, in the head's order; "META2, then
+-- maxchunks, then start_of_varheader" (W-212), of which the last two stand next to each other
+unfoldable pub closingStores : Head → List ℕ → ℕ → List ℤ → List Store
+closingStores h lists maxchunks table =
+    store (meta2At h (sizeOf lists) maxchunks) (meta2 (isBig h) (h .n) maxchunks (countOf lists) (cell table))
+    ∷ store (lastAt (h .n)) (lastFields (isBig h) maxchunks (meta2At h (sizeOf lists) maxchunks))
+    ∷ []
 
 module _ (st : State) where
   -- maxchunks of this session: the chunks in use, of the task that has most
   abbrev pub maxchunksUsed : ℕ
   maxchunksUsed = maxchunksOf (st .session .head .n) (st .lists)
-
-  unfoldable pub closedImage : List ℕ
-  closedImage = finished (st .session .head) (st .lists) maxchunksUsed (st .table) (st .image)
 
   -- "marks the session closed, and reports the container's length: the end of META2"
   unfoldable pub closeAnswer : Closed
@@ -45,5 +44,12 @@ module _ (st : State) where
       (record { refusal = 0; session = asClosed (st .session); length = endAt (st .session .head) (sizeOf (st .lists)) maxchunksUsed })
       (record { refusal = closeRefusal st; session = st .session; length = 0 })
 
+  unfoldable pub closeStores : List Store
+  closeStores = cond (eqb (closeRefusal st) 0) (closingStores (st .session .head) (st .lists) maxchunksUsed (st .table)) []
+
   unfoldable pub closeImage : List ℕ
-  closeImage = cond (eqb (closeRefusal st) 0) closedImage (st .image)
+  closeImage = applied (st .image) closeStores
+
+  -- what is found within a budget of byte stores (W-212)
+  unfoldable pub closeFound : ℕ → List ℕ
+  closeFound budget = found budget (st .image) closeStores

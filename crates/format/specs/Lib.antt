@@ -25,3 +25,4 @@ pub mod Bytes
 pub mod Lines
 pub mod Idle
 pub mod Places
+pub mod Moments

@@ -1,10 +1,11 @@
--- Document 01, "The first metadata block, META1": where each field stands, and META1 as a list of bytes.
+-- Document 01, "The first metadata block, META1": where each field stands, META1 as a list of bytes, and the order in which opening stores them.
 use mathlib.Core.Bool.{Bool}
 use mathlib.Core.List.{List, [], _∷_, _++_, flatten}
 use Prim.Native.Nat.{ℕ, _+_, _-_, _*_}
 use lib.IntN.{ℤ, pos}
-use lib.ListN.{length, replicate}
+use lib.ListN.{length, take, drop, replicate}
 use Rattle.lists.specs.Below.{joinBelow}
+use Rattle.lists.specs.Stores.{Store, store}
 use Rattle.endian.specs.Signed.{signedAt, signedDigits}
 use Rattle.format.specs.Layout.{meta1End, dataStart}
 use Rattle.format.specs.declared.head.Head.{Head}
@@ -152,3 +153,8 @@ module _ (h : Head) (rank size : ℕ → ℕ) (prefix : List ℕ) where
   -- what opening writes: "META1 and zeros up to D"
   unfoldable pub openingBytes : List ℕ
   openingBytes = meta1 0 0 ++ replicate (dataStart (h .blocksize) (h .n) - meta1End (h .n)) 0
+
+  -- in their order (W-212): "Opening shall first put zero in the mark's first byte, then write the rest of META1, and put the `s` back last"; the zeros
+  -- up to D follow the rest of META1
+  unfoldable pub openingStores : List Store
+  openingStores = store 0 (0 ∷ []) ∷ store 1 (drop 1 openingBytes) ∷ store 0 (take 1 magic) ∷ []

@@ -6,6 +6,7 @@ use lib.Dec.{ltb, eqb}
 use lib.IntN.{ℤ, pos}
 use lib.ListN.{length, replicate}
 use Rattle.lists.specs.Splice.{splice}
+use Rattle.lists.specs.Stores.{Store, applied, found}
 use Rattle.format.specs.Limits.{formatRule, blocksizeRule, tasksRule, ranksRule, sizesRule, plannedRule}
 use Rattle.format.specs.Layout.{meta2End}
 use Rattle.format.specs.declared.head.Head.{Head}
@@ -14,7 +15,7 @@ use Rattle.format.specs.declared.session.Needed.{Needed}
 use Rattle.format.specs.declared.session.Opened.{Opened}
 use Rattle.format.specs.declared.session.Plan.{Plan}
 use Rattle.format.specs.Refusals.{Test, test, firstFailing}
-use Rattle.format.specs.Meta1.{prefixLength, openingBytes}
+use Rattle.format.specs.Meta1.{prefixLength, openingStores}
 use Rattle.format.specs.Meta2.{unused, leastCount}
 use Rattle.format.specs.Record.{entry, listsOf, noLists, isOrder, tooShort, headOf}
 use Rattle.format.specs.Session.{State, stateOf, sessionOf, noSession}
@@ -96,8 +97,15 @@ module _ (o : Opening) where
 
     -- "Opening writes META1 and zeros up to D, and -1 in the first n·K cells. Nothing else changes."; "A fresh version 4 session has count 1 and cell
     -- 0 for each task" (W-209)
+    unfoldable pub openStores : List Store
+    openStores = cond opens (openingStores openHead (entry (o .ranks)) (entry (o .sizes)) (o .prefix)) []
+
     unfoldable pub openImage : List ℕ
-    openImage = cond opens (splice image 0 (openingBytes openHead (entry (o .ranks)) (entry (o .sizes)) (o .prefix))) image
+    openImage = applied image openStores
+
+    -- "with a budget of byte stores: what it leaves when that is spent is what is found" (W-212)
+    unfoldable pub openFound : ℕ → List ℕ
+    openFound budget = found budget image openStores
 
     unfoldable pub openTable : List ℤ
     openTable = cond opens (splice table 0 (blankCells (leastCount (o .plan .format)) tasks (o .plan .planned))) table

@@ -1,6 +1,6 @@
 -- A write to a session (document 01, "A write names a task ..."): its tests, where the bytes go, and what an accepted write changes; then lists
 -- of writes. It speaks of counts and cells, and knows nothing of the tally of u and w.
-use mathlib.Core.Bool.{cond, not, _&&_}
+use mathlib.Core.Bool.{Bool, cond, not, _&&_}
 use mathlib.Core.List.{List, [], _∷_, _++_}
 use Prim.Native.Nat.{ℕ, _+_, _-_}
 use lib.Dec.{ltb, leb, eqb}
@@ -8,10 +8,11 @@ use lib.IntN.{pos}
 use lib.ListN.{length, set}
 use Rattle.endian.specs.Signed.{natural}
 use Rattle.lists.specs.Splice.{splice}
+use Rattle.lists.specs.Stores.{Store, store, found}
 use Rattle.format.specs.Refusals.{Test, test, firstFailing}
 use Rattle.format.specs.Meta2.{valueIndex}
 use Rattle.format.specs.Record.{cell, sizeOf, countOf, holds, startOf, isTask}
-use Rattle.format.specs.Session.{State, sessionTests, withCount}
+use Rattle.format.specs.Session.{State, stateOf, sessionTests, withCount}
 
 -- the task is counted from 1
 pub record Request : Type 0 where
@@ -73,8 +74,18 @@ module _ (st : State) (q : Request) where
       }
 
   -- "Empty: accepted, nothing changes"; and nothing changes where it is refused
+  abbrev pub takesBytes : Bool
+  takesBytes = eqb writeRefusal 0 && not (eqb (length (q .bytes)) 0)
+
   unfoldable pub afterWrite : State
-  afterWrite = cond (eqb writeRefusal 0 && not (eqb (length (q .bytes)) 0)) stored st
+  afterWrite = cond takesBytes stored st
+
+  -- what it stores into the image, and what is found within a budget of these byte stores (W-212): record and table are those of the whole write
+  unfoldable pub writeStores : List Store
+  writeStores = cond takesBytes (store target (q .bytes) ∷ []) []
+
+  unfoldable pub writeFound : ℕ → State
+  writeFound budget = stateOf (afterWrite .session) (afterWrite .lists) (found budget (st .image) writeStores) (afterWrite .table)
 
 -- ---- a list of writes, each to what the last one left: the state in the end, and the answers in order
 

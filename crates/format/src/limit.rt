@@ -15,3 +15,6 @@ pub const MAX_SIZE: u64 = 1_073_741_824;
 pub const MAX_BLOCKS: u32 = 32;
 
 pub const MAX_RANK: u64 = 2_147_483_647;
+
+// A budget of byte stores that no call spends: it stores no more bytes than its image has.
+pub const ENDLESS: u64 = 18_446_744_073_709_551_615;

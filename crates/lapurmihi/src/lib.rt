@@ -31,11 +31,11 @@ use format::session::Plan;
 use format::session::Session;
 
 // The library's version: 10,000 times the first number, 100 times the second, and the third.
-pub const VERSION: u32 = 400;
+pub const VERSION: u32 = 401;
 
 #[no_mangle]
 pub extern "C" fn lapur_version() -> u32
-    ensures { λ r. ⌜ r ≡ 400 ⌝ }
+    ensures { λ r. ⌜ r ≡ 401 ⌝ }
 {
     VERSION
 }

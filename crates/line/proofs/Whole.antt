@@ -40,7 +40,7 @@ unfolding loadAnswer checkAnswer loadedIn headIn tasksIn
 few-tasks image table answer e none =
     let z : loadRefusal image (length table) ≡ 0 = sym (load-number image table) ∙ ap (λ (a : LoadAnswer). a .refusal) (sym e) ∙ none in
     let n = ap (λ (a : LoadAnswer). a .loaded .head .n) (e ∙ when-accepted (loadRefusal image (length table)) _ _ z) in
-    rw n (tasks-in (load-holds image (length table) z .first) .2)
+    rw n (tasks-in (load-holds image (length table) z .first .front) .2)
 
 -- the line, put at the start of the memory
 pub line-put : (image xs : List ℕ) {text ys : List ℕ} {end : ℕ} → text ≡ containerLine image → end < lineRoom → lineRoom ≤ length ys → Put xs 0 text ys end

@@ -1,5 +1,6 @@
 pub mod Below
 pub mod Splice
+pub mod Stores
 pub mod Pieces
 pub mod Logic
 pub mod Copies

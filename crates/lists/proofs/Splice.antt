@@ -2,7 +2,7 @@
 -- stores one after the other.
 use mathlib.Core.Bool.{Bool, true, false}
 use mathlib.Core.Path.{_≡_, refl, sym, ap, ap₂, _∙_}
-use mathlib.Core.List.{List, [], _∷_, _++_, append-assoc}
+use mathlib.Core.List.{List, [], _∷_, _++_, append-assoc, append-nil}
 use mathlib.Core.Logic.{_⊎_, inl, inr, ⊎-elim}
 use Prim.Native.Nat.{ℕ, zero, suc, _+_, _-_, _*_, _<_, _≤_}
 use native.Mathlib.Nat.{add-zero, zero-add, suc-add, mul-comm, le-refl}
@@ -10,7 +10,7 @@ use native.Mathlib.Numerals.{add-one}
 use native.Mathlib.Omega.{arith}
 use lib.Dec.{ltb, leb}
 use lib.ListN.{length, take, drop, getD, set, length-append, length-drop, take-append-drop}
-use lib.Seq.{length-take-le, take-nil, take-take, take-at, take-add, take-append-seam, take-append-le, drop-at, drop-drop, drop-append-le}
+use lib.Seq.{length-take-le, take-nil, take-take, take-at, take-add, take-append-seam, take-append-le, drop-at, drop-drop, drop-append-le, drop-length}
 use lib.Seq.{getD-take, getD-drop, set-split}
 use borrow.Author.Tests.{ltb-true, ltb-false, leb-true, leb-false}
 use Rattle.lists.specs.Below.{joinBelow, listBelow}
@@ -116,6 +116,11 @@ module _ {ℓ} {A : Type ℓ} where
 
     pub splice-rest : drop n (splice xs 0 vs) ≡ drop n xs
     splice-rest = splice-after xs 0 vs fits n (omega arith)
+
+  -- a list put over the whole of another
+  pub splice-over : (xs vs : List A) → length vs ≡ length xs → splice xs 0 vs ≡ vs
+  unfolding splice
+  splice-over xs vs l = rw (zero-add, l, drop-length) (append-nil vs)
 
   -- a splice at the start makes no list shorter
   pub splice-longer : (xs vs : List A) → length xs ≤ length (splice xs 0 vs)

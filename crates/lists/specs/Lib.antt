@@ -1,3 +1,4 @@
 pub mod Below
 pub mod Splice
+pub mod Stores
 pub mod Logic

@@ -113,7 +113,7 @@ module _ (image : List ℕ) (zero : firstFailing (meta1Tests image (length image
 
   few-tasks : tasksIn image ≤ maxTasks
   unfolding tasksIn
-  few-tasks = tasks-in first .2
+  few-tasks = tasks-in (first .front) .2
 
   few-chunks : maxchunksIn image ≤ maxBlocks
   unfolding maxchunksIn
@@ -135,10 +135,10 @@ module _ (image : List ℕ) (zero : firstFailing (meta1Tests image (length image
     unfolding headIn sizeIn
     sound-sizes =
         record {
-          block = rw (block-in first .0) at (first .blocksize);
+          block = rw (block-in (first .front) .0) at (first .front .blocksize);
           tasks = few-tasks;
           listed = omega (arith, few-tasks, length-sizes listed (length-lists (tasksIn image) (rankIn image) (sizeIn image) count));
-          sized = sizes-hold _ _ (λ i l. rw (size-is i l) (within-holds 1 maxSize _ (size-in first i l .1) (size-in first i l .2)));
+          sized = sizes-hold _ _ (λ i l. rw (size-is i l) (within-holds 1 maxSize _ (size-in (first .front) i l .1) (size-in (first .front) i l .2)));
         }
 
 -- test 13 looks at what chunks of the head's tasks hold

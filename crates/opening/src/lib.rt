@@ -13,11 +13,12 @@ ghost use Rattle.format.specs.declared.session.Needed.{Needed};
 ghost use Rattle.format.specs.declared.session.Opened.{Opened};
 ghost use Rattle.format.specs.Session.{noSession};
 ghost use Rattle.format.specs.Meta2.{unused};
-ghost use Rattle.format.specs.Open.{openingOf, shapeTests, blankCells, numberTests, needsAnswer, openRefusal, openAnswer, openImage, openTable};
+ghost use Rattle.format.specs.Open.{openingOf, shapeTests, blankCells, numberTests, needsAnswer, openRefusal, openAnswer, openImage, openFound, openTable};
 use format::field;
 use format::head;
 use format::head::Head;
 use format::head::LISTS;
+use format::limit;
 use format::limit::MAX_TASKS;
 use format::refusal;
 use format::session::Needed;
@@ -229,17 +230,18 @@ fn blank(table: &mut [i64], n: usize, begun: usize, planned: usize)
 }
 
 // Opens a session of as many tasks as there are ranks: META1 and zeros up to D into the image; -1 into the first cells, and in version 4 a 0 for
-// the first chunk of each task. Tests 2, 4, 5, 6, 21, 8, 9, 20 and 18, in this order.
-pub fn open(
+// the first chunk of each task. Tests 2, 4, 5, 6, 21, 8, 9, 20 and 18, in this order. Of the byte stores into the image only the first `budget` are made.
+pub fn open_within(
     plan: Plan,
     ranks: &[u64],
     sizes: &[u64],
     prefix: &[u8],
     image: &mut [u8],
     table: &mut [i64],
+    budget: u64,
 ) -> Opened
     ensures { λ r. ⌜ r ≡ openAnswer (openingOf plan (now (ranks .entry)) (now (sizes .entry)) (now (prefix .entry))) (now (image .entry)) (now (table .entry)) ⌝ }
-    ensures { λ _. ⌜ now (image .exit) ≡ openImage (openingOf plan (now (ranks .entry)) (now (sizes .entry)) (now (prefix .entry))) (now (image .entry)) (now (table .entry)) ⌝ }
+    ensures { λ _. ⌜ now (image .exit) ≡ openFound (openingOf plan (now (ranks .entry)) (now (sizes .entry)) (now (prefix .entry))) (now (image .entry)) (now (table .entry)) budget ⌝ }
     ensures { λ _. ⌜ now (table .exit) ≡ openTable (openingOf plan (now (ranks .entry)) (now (sizes .entry)) (now (prefix .entry))) (now (image .entry)) (now (table .entry)) ⌝ }
 {
     let refusal = open_refusal(
@@ -263,7 +265,7 @@ pub fn open(
     };
     let begun = limits::least_count(plan.format);
     let lists = lists_of(ranks, sizes, begun);
-    emit::meta1(image, head, &lists, prefix);
+    emit::meta1(image, head, &lists, prefix, budget);
     blank(table, ranks.len(), begun as usize, plan.planned as usize);
     Opened {
         session: Session {
@@ -274,4 +276,20 @@ pub fn open(
         lists,
         refusal: 0,
     }
+}
+
+// The same, with all of its stores.
+pub fn open(
+    plan: Plan,
+    ranks: &[u64],
+    sizes: &[u64],
+    prefix: &[u8],
+    image: &mut [u8],
+    table: &mut [i64],
+) -> Opened
+    ensures { λ r. ⌜ r ≡ openAnswer (openingOf plan (now (ranks .entry)) (now (sizes .entry)) (now (prefix .entry))) (now (image .entry)) (now (table .entry)) ⌝ }
+    ensures { λ _. ⌜ now (image .exit) ≡ openImage (openingOf plan (now (ranks .entry)) (now (sizes .entry)) (now (prefix .entry))) (now (image .entry)) (now (table .entry)) ⌝ }
+    ensures { λ _. ⌜ now (table .exit) ≡ openTable (openingOf plan (now (ranks .entry)) (now (sizes .entry)) (now (prefix .entry))) (now (image .entry)) (now (table .entry)) ⌝ }
+{
+    open_within(plan, ranks, sizes, prefix, image, table, limit::ENDLESS)
 }

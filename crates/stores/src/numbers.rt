@@ -5,6 +5,7 @@ ghost use lib.ListN.{length};
 ghost use Rattle.endian.specs.Number.{digits};
 ghost use Rattle.endian.specs.Signed.{signedDigits};
 ghost use Rattle.lists.specs.Splice.{splice};
+ghost use Rattle.lists.specs.Stores.{Spends};
 use crate::memory;
 use endian::sign;
 
@@ -74,4 +75,20 @@ pub fn put_i64(s: &mut [u8], at: usize, big: bool, z: i64)
     ensures { λ _. ⌜ now (s .exit) ≡ splice (now (s .entry)) at (signedDigits big 8 z) ⌝ }
 {
     put_u64(s, at, big, sign::bits64(z));
+}
+
+// The two of 8 bytes, as far as a budget of byte stores goes; what is left of it.
+pub fn put_u64_within(s: &mut [u8], at: usize, big: bool, v: u64, budget: u64) -> u64
+    requires { ⌜ at + 8 ≤ length (now s) ⌝ }
+    ensures { λ r. ⌜ Spends budget (now (s .entry)) at (digits big 8 v) (now (s .exit)) r ⌝ }
+{
+    let number = bytes8(v, big);
+    memory::copy_within(&mut s[at..], &number, budget)
+}
+
+pub fn put_i64_within(s: &mut [u8], at: usize, big: bool, z: i64, budget: u64) -> u64
+    requires { ⌜ at + 8 ≤ length (now s) ⌝ }
+    ensures { λ r. ⌜ Spends budget (now (s .entry)) at (signedDigits big 8 z) (now (s .exit)) r ⌝ }
+{
+    put_u64_within(s, at, big, sign::bits64(z), budget)
 }

@@ -11,7 +11,7 @@ use Rattle.format.specs.Refusals.{firstFailing}
 use Rattle.format.specs.Record.{isTask}
 use Rattle.writing.specs.declared.Decision.{Decision}
 use Rattle.format.specs.Session.{State, sessionTests}
-use Rattle.format.specs.Write.{Request, begun, inLast, capacityOf, spot, writeRefusal, stored, afterWrite}
+use Rattle.format.specs.Write.{Request, begun, inLast, capacityOf, spot, writeRefusal, takesBytes}
 use Rattle.writing.specs.Writing.{nextChunk, decision}
 use Rattle.format.proofs.Answers.{answer-no-task, answer-empty, answer-long, answer-chunk}
 use Rattle.format.proofs.Writable.{spot-first}
@@ -79,27 +79,27 @@ module _ (st : State) (q : Request) where
 
 module _ (st : State) (q : Request) where
   -- chunk 0: nothing is stored
-  pub not-stored : decision st q .chunk ≡ 0 → (writeRefusal st q ≡ decision st q .refusal) × (afterWrite st q ≡ st)
-  unfolding decision afterWrite
-  not-stored e = go (eqb (writeRefusal st q) 0 && not (eqb (length (q .bytes)) 0)) refl e
+  pub not-stored : decision st q .chunk ≡ 0 → (writeRefusal st q ≡ decision st q .refusal) × (takesBytes st q ≡ false)
+  unfolding decision
+  not-stored e = go (takesBytes st q) refl e
     where
-      go : (b : Bool) → (eqb (writeRefusal st q) 0 && not (eqb (length (q .bytes)) 0)) ≡ b
+      go : (b : Bool) → takesBytes st q ≡ b
           → cond {A = Decision} b (record { refusal = 0; chunk = spot st q .chunk; from = spot st q .from }) (nothing (writeRefusal st q)) .chunk ≡ 0
           → (writeRefusal st q ≡ cond {A = Decision} b (record { refusal = 0; chunk = spot st q .chunk; from = spot st q .from }) (nothing (writeRefusal st q)) .refusal)
-          × (cond b (stored st q) st ≡ st)
+          × (b ≡ false)
       go true f z = absurd (omega (arith, spot-first st q))
       go false f z = (refl, refl)
 
   -- any other: an accepted request that has bytes
   pub is-stored : (decision st q .chunk ≡ 0 → ⊥)
-      → (writeRefusal st q ≡ 0) × (0 < length (q .bytes)) × (afterWrite st q ≡ stored st q)
+      → (writeRefusal st q ≡ 0) × (0 < length (q .bytes)) × (takesBytes st q ≡ true)
       × (decision st q ≡ record { refusal = 0; chunk = spot st q .chunk; from = spot st q .from })
-  unfolding decision afterWrite
+  unfolding decision
   is-stored n = go (eqb (writeRefusal st q) 0) refl (eqb (length (q .bytes)) 0) refl n
     where
       go : (b : Bool) → eqb (writeRefusal st q) 0 ≡ b → (d : Bool) → eqb (length (q .bytes)) 0 ≡ d
           → (cond {A = Decision} (b && not d) (record { refusal = 0; chunk = spot st q .chunk; from = spot st q .from }) (nothing (writeRefusal st q)) .chunk ≡ 0 → ⊥)
-          → (writeRefusal st q ≡ 0) × (0 < length (q .bytes)) × (cond (b && not d) (stored st q) st ≡ stored st q)
+          → (writeRefusal st q ≡ 0) × (0 < length (q .bytes)) × ((b && not d) ≡ true)
           × (cond {A = Decision} (b && not d) (record { refusal = 0; chunk = spot st q .chunk; from = spot st q .from }) (nothing (writeRefusal st q))
           ≡ record { refusal = 0; chunk = spot st q .chunk; from = spot st q .from })
       go true e false f m = (eqb-true _ _ e, omega (arith, eqb-false (length (q .bytes)) 0 f), refl, refl)

@@ -1,15 +1,15 @@
 -- A write as code decides and stores it: the decision, and the chunk that the bytes go to.
-use mathlib.Core.Bool.{cond, not, _&&_}
+use mathlib.Core.Bool.{cond}
 use mathlib.Core.List.{List}
 use Prim.Native.Nat.{ℕ, _+_, _-_, _≤_}
-use lib.Dec.{leb, eqb}
+use lib.Dec.{leb}
 use lib.ListN.{length}
 use Rattle.format.specs.Limits.{maxBlocks, Sound}
 use Rattle.format.specs.declared.head.Head.{Head}
 use Rattle.writing.specs.declared.Decision.{Decision}
 use Rattle.format.specs.Record.{entry, holds, startOf}
 use Rattle.format.specs.Session.{State}
-use Rattle.format.specs.Write.{Request, spot, writeRefusal}
+use Rattle.format.specs.Write.{Request, spot, takesBytes, writeRefusal}
 
 -- "Else they go to the start of its next chunk, if its number is at most K"
 unfoldable pub nextChunk : ℕ → ℕ → Decision
@@ -20,7 +20,7 @@ module _ (st : State) (q : Request) where
   -- what is decided: where the bytes go, or chunk 0 where there are none or they are refused
   unfoldable pub decision : Decision
   decision =
-      cond (eqb (writeRefusal st q) 0 && not (eqb (length (q .bytes)) 0))
+      cond (takesBytes st q)
       (record { refusal = 0; chunk = spot st q .chunk; from = spot st q .from })
       (record { refusal = writeRefusal st q; chunk = 0; from = 0 })
 

@@ -3,18 +3,20 @@
 ghost use mathlib.Core.Path.{_≡_};
 ghost use Prim.Native.Nat.{_+_, _≤_, _<_};
 ghost use lib.ListN.{length};
-ghost use Rattle.lists.specs.Splice.{splice};
+ghost use mathlib.Core.List.{[], _∷_};
+ghost use Rattle.lists.specs.Stores.{store, found};
 ghost use Rattle.format.specs.declared.head.Head.{Head};
 ghost use Rattle.format.specs.Refusals.{firstFailing};
 ghost use Rattle.format.specs.Record.{entry, allLists, startOf};
 ghost use Rattle.format.specs.declared.session.Session.{Session};
 ghost use Rattle.writing.specs.declared.Decision.{Decision};
 ghost use Rattle.format.specs.Session.{stateOf, sessionTests};
-ghost use Rattle.format.specs.Write.{requestOf, writeRefusal, afterWrite};
+ghost use Rattle.format.specs.Write.{requestOf, writeRefusal, afterWrite, writeFound};
 ghost use Rattle.writing.specs.Writing.{nextChunk, ChunkThere, decision};
 use format::head;
 use format::head::Head;
 use format::head::LISTS;
+use format::limit;
 use format::refusal;
 use format::session::Session;
 use stores::memory;
@@ -115,15 +117,24 @@ fn decide(
 }
 
 // The bytes into a task's chunk, from its next free byte on: the unwritten rest of the chunk is lent to the copy.
-fn put(image: &mut [u8], h: Head, sizes: &[u64], task: u64, chunk: u64, from: u64, bytes: &[u8])
+fn put(
+    image: &mut [u8],
+    h: Head,
+    sizes: &[u64],
+    task: u64,
+    chunk: u64,
+    from: u64,
+    bytes: &[u8],
+    budget: u64,
+)
     requires { ⌜ ChunkThere h (now sizes) task chunk from (now bytes) (now image) ⌝ }
-    ensures { λ _. ⌜ now (image .exit) ≡ splice (now (image .entry)) (startOf h (entry (now (sizes .entry))) task chunk + from) (now (bytes .entry)) ⌝ }
+    ensures { λ _. ⌜ now (image .exit) ≡ found budget (now (image .entry)) (store (startOf h (entry (now (sizes .entry))) task chunk + from) (now (bytes .entry)) ∷ []) ⌝ }
 {
     let i = (task - 1) as usize;
     let start = layout::chunk_start(sizes, h.n, h.blocksize, task, chunk) as usize;
     let free = start + from as usize;
     let end = start + layout::chunk_holds(sizes[i], h.blocksize) as usize;
-    memory::copy_in(&mut image[free..end], bytes);
+    memory::copy_within(&mut image[free..end], bytes, budget);
 }
 
 // The request of a write to a session that passed its tests: 14, an empty one accepted, 15, 16, and then the stores, of the bytes, of the
@@ -135,11 +146,12 @@ fn request(
     table: &mut [i64],
     task: u64,
     bytes: &[u8],
+    budget: u64,
 ) -> u32
     requires { ⌜ length (now lists) ≡ allLists ⌝ }
     requires { ⌜ firstFailing (sessionTests (stateOf s (now lists) (now image) (now table))) ≡ 0 ⌝ }
     ensures { λ r. ⌜ r ≡ writeRefusal (stateOf s (now (lists .entry)) (now (image .entry)) (now (table .entry))) (requestOf task (now (bytes .entry))) ⌝ }
-    ensures { λ _. ⌜ stateOf s (now (lists .exit)) (now (image .exit)) (now (table .exit)) ≡ afterWrite (stateOf s (now (lists .entry)) (now (image .entry)) (now (table .entry))) (requestOf task (now (bytes .entry))) ⌝ }
+    ensures { λ _. ⌜ stateOf s (now (lists .exit)) (now (image .exit)) (now (table .exit)) ≡ writeFound (stateOf s (now (lists .entry)) (now (image .entry)) (now (table .entry))) (requestOf task (now (bytes .entry))) budget ⌝ }
 {
     let d = decide(s, lists, image, table, task, bytes);
     let chunk = d.chunk;
@@ -156,13 +168,35 @@ fn request(
         chunk,
         d.from,
         bytes,
+        budget,
     );
     table[at] = tables::cell_of(d.from + bytes.len() as u64);
     lists[head::COUNTS + i] = chunk;
     0
 }
 
-// A write to a session: tests 17, 18 and 19, then its request. Only a count of the lists may change.
+// A write to a session: tests 17, 18 and 19, then its request. Only a count of the lists may change. Of the byte stores into the image only the first
+// `budget` are made.
+pub fn write_within(
+    s: Session,
+    lists: &mut [u64; LISTS],
+    image: &mut [u8],
+    table: &mut [i64],
+    task: u64,
+    bytes: &[u8],
+    budget: u64,
+) -> u32
+    ensures { λ r. ⌜ r ≡ writeRefusal (stateOf s (now (lists .entry)) (now (image .entry)) (now (table .entry))) (requestOf task (now (bytes .entry))) ⌝ }
+    ensures { λ _. ⌜ stateOf s (now (lists .exit)) (now (image .exit)) (now (table .exit)) ≡ writeFound (stateOf s (now (lists .entry)) (now (image .entry)) (now (table .entry))) (requestOf task (now (bytes .entry))) budget ⌝ }
+{
+    let refusal = records::session_refusal(s, lists, image, table);
+    if refusal != 0 {
+        return refusal;
+    }
+    request(s, lists, image, table, task, bytes, budget)
+}
+
+// The same, with all of its stores.
 pub fn write(
     s: Session,
     lists: &mut [u64; LISTS],
@@ -174,9 +208,5 @@ pub fn write(
     ensures { λ r. ⌜ r ≡ writeRefusal (stateOf s (now (lists .entry)) (now (image .entry)) (now (table .entry))) (requestOf task (now (bytes .entry))) ⌝ }
     ensures { λ _. ⌜ stateOf s (now (lists .exit)) (now (image .exit)) (now (table .exit)) ≡ afterWrite (stateOf s (now (lists .entry)) (now (image .entry)) (now (table .entry))) (requestOf task (now (bytes .entry))) ⌝ }
 {
-    let refusal = records::session_refusal(s, lists, image, table);
-    if refusal != 0 {
-        return refusal;
-    }
-    request(s, lists, image, table, task, bytes)
+    write_within(s, lists, image, table, task, bytes, limit::ENDLESS)
 }

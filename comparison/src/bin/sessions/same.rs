@@ -1,40 +1,13 @@
 //! Holds the comparisons: each passes, or says in words what the library has and what is wanted by the reference or the paper.
 
 use crate::memory::{LibraryMemory, Memory};
-use comparison::{loaded_of, session_of};
-use std::fmt::Debug;
+use comparison::{loaded_of, same_session, session_of};
 
-pub fn same<T: PartialEq + Debug>(what: &str, library: T, wanted: T) -> Result<(), String> {
-    if library == wanted {
-        Ok(())
-    } else {
-        Err(format!("{what}: the library has {library:?}, wanted is {wanted:?}"))
-    }
-}
-
-/// Two lists, or the first place, counted from 0, where they differ.
-pub fn same_list<T: PartialEq + Debug>(
-    what: &str,
-    library: &[T],
-    wanted: &[T],
-) -> Result<(), String> {
-    if library == wanted {
-        return Ok(());
-    }
-    match library.iter().zip(wanted).position(|(one, other)| one != other) {
-        Some(at) => same(&format!("{what} at {at}"), &library[at], &wanted[at]),
-        None => same(&format!("length of {what}"), library.len(), wanted.len()),
-    }
-}
+pub use comparison::{same, same_list};
 
 /// All that a call works on: both records with their lists, and the lent memory.
 pub fn same_memory(library: &LibraryMemory, wanted: &Memory) -> Result<(), String> {
-    let (ours, theirs) = (&library.session, session_of(&wanted.session));
-    same("the session's numbers", ours.numbers, theirs.numbers)?;
-    same_list("the session's ranks", &ours.ranks, &theirs.ranks)?;
-    same_list("the session's sizes", &ours.sizes, &theirs.sizes)?;
-    same_list("the session's counts", &ours.counts, &theirs.counts)?;
-
+    same_session(&library.session, &session_of(&wanted.session))?;
     let (ours, theirs) = (&library.loaded, loaded_of(&wanted.loaded));
     same("the loaded numbers", ours.numbers, theirs.numbers)?;
     same_list("the loaded ranks", &ours.ranks, &theirs.ranks)?;

@@ -1,19 +1,17 @@
--- META2, then the last two fields, each a splice.
-use mathlib.Core.Path.{ap, ap₂, _∙_}
-use mathlib.Core.List.{List}
+-- META2, then the last two fields.
+use mathlib.Core.Path.{refl, ap, ap₂}
 use Prim.Native.Nat.{ℕ, _+_, _≤_}
 use native.Mathlib.Omega.{arith}
 use lib.ListN.{length}
 use borrow.Author.Needs.{needs}
-use Rattle.lists.specs.Splice.{splice}
+use Rattle.lists.proofs.Stores.{spends-same, found-then, found-last}
 use Rattle.format.specs.Layout.{meta1End, meta2Start, meta2End}
 use Rattle.format.proofs.Power.{blocksize-facts}
 use Rattle.format.proofs.Chunks.{meta1-before-data}
-use Rattle.format.specs.Meta1.{lastAt, lastFields}
-use Rattle.format.specs.Meta2.{meta2}
-use Rattle.format.specs.Record.{cell, countOf, isBig, meta2At, endAt}
+use Rattle.format.specs.Meta1.{lastFields}
+use Rattle.format.specs.Record.{isBig, meta2At, endAt}
 use Rattle.format.proofs.Stripes.{length-counts}
-use Rattle.format.specs.Close.{finished}
+use Rattle.format.specs.Close.{closingStores}
 use Rattle.closing.proofs.finish.Statement.{statement}
 use Rattle.closing.proofs.finish.Tie as tie
 
@@ -83,16 +81,16 @@ same-length : tie.Need-same-length
 same-length c = search needs
 
 returns : tie.Need-returns
-unfolding finished meta2At endAt meta2End
+unfolding closingStores meta2At endAt meta2End
 returns c =
     let l = c .before .before .before in
     let m = from-last l in
     let a = start (from-meta2 m) .args in
     let h = a .h in
     let place = from-meta2 m .meta2-start .ensures in
-    let second = ap (λ (at : ℕ). splice (a .image .now) at (meta2 (isBig h) (h .n) (a .maxchunks) (countOf (a .lists .now)) (cell (a .table .now)))) place in
-    let fields = ap₂ (λ (image : List ℕ) (at : ℕ). splice image (lastAt (h .n)) (lastFields (isBig h) (a .maxchunks) at)) (m .meta2 .ensures ∙ second) place in
-    (l .last-fields .ensures ∙ fields, ap₂ (λ (x y : ℕ). x + y) place (c .meta2-length .ensures))
+    let second = spends-same place refl (m .meta2 .ensures) in
+    let fields = spends-same refl (ap (lastFields (isBig h) (a .maxchunks)) place) (l .last-fields .ensures) in
+    (found-then _ second (found-last fields), ap₂ (λ (x y : ℕ). x + y) place (c .meta2-length .ensures))
 
 pub finish-spec : {M : Type 1} → statement M
 finish-spec =

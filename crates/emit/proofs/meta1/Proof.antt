@@ -1,133 +1,49 @@
--- Four stores, each where the last ended.
-use mathlib.Core.Path.{sym, ap, _∙_}
-use Prim.Native.Nat.{ℕ, _-_}
+-- Three runs: 0 into the first byte, the rest, and the first byte itself.
+use Prim.Native.Nat.{_≤_}
 use native.Mathlib.Omega.{arith}
-use lib.IntN.{pos}
-use lib.ListN.{replicate}
 use borrow.Author.Needs.{needs}
-use Rattle.lists.specs.Below.{joinBelow}
-use Rattle.endian.specs.Signed.{signedDigits}
-use Rattle.lists.specs.Splice.{splice}
-use Rattle.format.specs.Record.{isBig, rankOf, sizeOf}
-use Rattle.format.proofs.Stripes.{length-ranks, length-sizes}
-use Rattle.emit.proofs.Parts.{opening-fits, opening-stored}
+use Rattle.lists.proofs.Stores.{found-then, found-last}
+use Rattle.format.specs.Layout.{dataStart}
+use Rattle.format.specs.Meta1.{openingStores}
+use Rattle.emit.proofs.Parts.{opening-fits}
 use Rattle.emit.proofs.meta1.Statement.{statement}
 use Rattle.emit.proofs.meta1.Tie as tie
 
--- from each store back to the one before it, and to the start
-abbrev start : tie.After-data-start → tie.Start
-start c = let k = c .before .before .before in k .before .before .before .before
-
-abbrev from-fixed : tie.After-put-fixed → tie.After-data-start
-from-fixed c = c .before .before
-
-abbrev from-ranks : tie.After-put-list → tie.After-put-fixed
-from-ranks c = c .before .before .before .before .before
-
-abbrev from-sizes : tie.After-put-list2 → tie.After-put-list
-from-sizes c = let k = c .before .before .before in k .before .before .before
-
-cast-n : tie.Need-cast-n
-cast-n c = search needs
-
-last-at-requires : tie.Need-last-at-requires
-last-at-requires c κs = search needs
-
-data-start-requires : tie.Need-data-start-requires
-data-start-requires c κs = search needs
-
-put-fixed-requires : tie.Need-put-fixed-requires
-put-fixed-requires c κs =
-    let z = start (c .before) in
-    let h = z .args .h in
-    (search needs, omega (arith, z .pre, opening-fits (h .blocksize) (h .n) (z .pre .0 .0)))
-
-slice-aggregate-put-list : tie.Need-slice-aggregate-put-list
-slice-aggregate-put-list c =
-    let z = start (from-fixed (c .before .before .before .before)) in
-    sym (length-ranks (z .args .lists .now) (z .pre .0 .2))
-
-put-list-requires : tie.Need-put-list-requires
-put-list-requires c κs =
-    let z = start (from-fixed (c .before .before .before .before)) in
-    let h = z .args .h in (
-      omega (arith, z .pre, length-ranks (z .args .lists .now) (z .pre .0 .2)),
-      omega (arith, z .pre, opening-fits (h .blocksize) (h .n) (z .pre .0 .0)),
-    )
-
-sizes-at-requires : tie.Need-sizes-at-requires
-sizes-at-requires c κs = start (from-fixed (from-ranks (c .before .before .before))) .pre .0 .1
-
-sub-put-list : tie.Need-sub-put-list
-sub-put-list c = search needs
-
-part-put-list-start : tie.Need-part-put-list-start
-part-put-list-start c = search needs
-
-part-put-list-end : tie.Need-part-put-list-end
-part-put-list-end c = omega (arith, start (from-fixed (from-ranks (c .before .before .before .before))) .pre .0 .2)
-
-put-list-requires-2 : tie.Need-put-list-requires-2
-put-list-requires-2 c κs =
-    let z = start (from-fixed (from-ranks (c .before .before .before .before .before))) in
-    let h = z .args .h in (
-      omega (arith, z .pre, length-sizes (z .args .lists .now) (z .pre .0 .2)),
-      omega (arith, z .pre, opening-fits (h .blocksize) (h .n) (z .pre .0 .0), c .before .sizes-at .ensures),
-    )
+-- D is not 0
+long : (z : tie.Start) → 1 ≤ dataStart (z .args .h .blocksize) (z .args .h .n)
+long z = let h = z .args .h in omega (arith, opening-fits (h .blocksize) (h .n) (z .pre .0 .0))
 
 put-zeros-requires : tie.Need-put-zeros-requires
 put-zeros-requires c κs =
-    let d = from-fixed (from-ranks (from-sizes (c .before .before .before))) in
-    let z = start d in
-    let h = z .args .h in
-    let fits = opening-fits (h .blocksize) (h .n) (z .pre .0 .0) in
-    let last = d .before .last-at .ensures in
-    let third = c .before .before .before in
-    let second = third .before .before .before .before .before in
-    let first = second .before .before .before .before .before in (
-      omega (arith, z .pre, d .data-start .ensures),
-      omega (arith, z .pre, d .data-start .ensures, c .before .before .image3 .given, second .image2 .given, first .image .given),
-    )
+    let z = c .before .before .before .before in
+    (search needs, omega (arith, z .pre, long z))
+
+put-rest-requires : tie.Need-put-rest-requires
+put-rest-requires c κs = search needs
+
+array-share-prefix-magic : tie.Need-array-share-prefix-magic
+array-share-prefix-magic c = search needs
+
+slice-aggregate-copy-within : tie.Need-slice-aggregate-copy-within
+slice-aggregate-copy-within c = search needs
+
+copy-within-requires : tie.Need-copy-within-requires
+copy-within-requires c κs =
+    let second = c .before .before .before .before in
+    let first = second .before .before .before .before in
+    let z = first .before .before .before .before .before in
+    omega (arith, z .pre, long z, c .before .before .before .image2 .given, second .before .before .before .image .given)
 
 same-length : tie.Need-same-length
 same-length c = search needs
 
 returns : tie.Need-returns
+unfolding openingStores
 returns c =
-    let fourth = c .before .before in
-    let third = fourth .before .before .before .before in
-    let second = from-sizes third in
-    let first = from-ranks second in
-    let d = from-fixed first in
-    let a = start d .args in
-    let sizes =
-    ap (λ (at : ℕ). splice (second .put-list .last .0) at (joinBelow (a .h .n) (λ i. signedDigits (isBig (a .h)) 8 (pos (sizeOf (a .lists .now) i)))))
-    (third .before .before .sizes-at .ensures) in
-    let zeros =
-    ap (λ (at : ℕ). splice (third .put-list2 .last .0) at (replicate (d .data-start .result - at) 0)) (d .before .last-at .ensures) in
-    opening-stored (a .h) (rankOf (a .lists .now)) (sizeOf (a .lists .now)) (a .prefix .now) (a .image .now) (start d .pre .1 .0) (start d .pre .0 .0)
-    (start d .pre .1 .1)
-    (d .data-start .ensures)
-    (first .put-fixed .ensures)
-    (second .put-list .ensures)
-    (third .put-list2 .ensures ∙ sizes)
-    (fourth .put-zeros .ensures ∙ zeros)
+    let third = c .before .before in
+    let second = third .before .before .before .before .before in
+    let first = second .before .before .before .before in
+    found-then _ (first .put-zeros .ensures) (found-then _ (second .put-rest .ensures) (found-last (third .copy-within .ensures)))
 
 pub meta1-spec : {M : Type 1} → statement M
-meta1-spec =
-    tie.close
-    (tie.spec
-    cast-n
-    last-at-requires
-    data-start-requires
-    put-fixed-requires
-    slice-aggregate-put-list
-    put-list-requires
-    sizes-at-requires
-    sub-put-list
-    part-put-list-start
-    part-put-list-end
-    put-list-requires-2
-    put-zeros-requires
-    same-length
-    returns)
+meta1-spec = tie.close (tie.spec put-zeros-requires put-rest-requires array-share-prefix-magic slice-aggregate-copy-within copy-within-requires same-length returns)

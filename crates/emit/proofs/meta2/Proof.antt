@@ -6,7 +6,7 @@ use borrow.Author.Needs.{needs}
 use Rattle.endian.specs.Number.{digits}
 use Rattle.endian.proofs.Number.{length-digits}
 use Rattle.endian.proofs.Signed.{length-numbers}
-use Rattle.lists.proofs.Splice.{put-join, put-then}
+use Rattle.lists.proofs.Stores.{runs, run-then}
 use Rattle.format.specs.Meta2.{meta2}
 use Rattle.format.specs.Record.{entry, cell}
 use Rattle.format.proofs.Chunks.{meta2-parts}
@@ -41,9 +41,9 @@ returns c =
     let xs = a .image .now in
     let cells = a .n * a .maxchunks in
     let count : ℕ → List ℕ = λ i. digits (a .big) 8 (entry (a .counts .now) i) in
-    let counts = put-join xs (a .at) 8 count (λ i. length-digits (a .big) 8 _) (a .n) (first .put-list .ensures) in
-    put-then xs (a .at) _ _ (8 * cells) counts (length-numbers (a .big) 8 cells (cell (a .table .now))) (second .put-cells .ensures)
-    (omega (arith, z .pre, meta2-parts (a .n) (a .maxchunks))) .0
+    let counts = runs (a .budget) xs (a .at) 8 count (λ i. length-digits (a .big) 8 _) (a .n) (first .put-list .ensures) in
+    run-then (a .budget) xs (a .at) _ _ (8 * cells) counts (length-numbers (a .big) 8 cells (cell (a .table .now))) (second .put-cells .ensures)
+    (omega (arith, z .pre, meta2-parts (a .n) (a .maxchunks))) .spends
 
 pub meta2-spec : {M : Type 1} → statement M
 meta2-spec =

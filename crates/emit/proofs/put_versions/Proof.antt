@@ -9,7 +9,7 @@ use Rattle.endian.proofs.Number.{length-digits}
 use Rattle.lists.proofs.Splice.{put-first, put-then}
 use Rattle.format.specs.Meta1.{magic, orderNumber}
 use Rattle.emit.specs.Parts.{versions}
-use Rattle.emit.proofs.Parts.{store-signed}
+use Rattle.runs.proofs.Signed.{store-signed}
 use Rattle.emit.proofs.put_versions.Statement.{statement}
 use Rattle.emit.proofs.put_versions.Tie as tie
 
@@ -44,7 +44,7 @@ returns c =
     let first = second .before .before .before .before in
     let z = first .before .before .before .before in
     let a = z .args in
-    let xs = a .image .now in
+    let xs = a .fields .now in
     let wide = length-digits (a .big) 4 in
     let marked = put-first xs 0 magic 4 refl (first .copy-in .ensures) in
     let ordered = put-then xs 0 _ (digits (a .big) 4 orderNumber) 4 marked (wide _) (second .put-u32 .ensures) (omega (arith, z .pre)) in

@@ -1,11 +1,10 @@
--- The copy into the unwritten rest of the chunk is a splice of the whole image.
-use mathlib.Core.Path.{ap, _∙_}
+-- The copy into the unwritten rest of the chunk is one into the whole image.
+use mathlib.Core.Path.{refl, ap}
 use Prim.Native.Nat.{ℕ, _+_, _-_}
 use native.Mathlib.Omega.{arith}
 use lib.ListN.{length-take, length-drop}
 use borrow.Author.Needs.{needs}
-use Rattle.lists.specs.Splice.{splice}
-use Rattle.lists.proofs.Splice.{splice-part}
+use Rattle.lists.proofs.Stores.{spends-part, spends-same, found-last}
 use Rattle.format.proofs.Bounds.{sound-size}
 use Rattle.format.specs.Record.{holds, startOf}
 use Rattle.writing.proofs.put.Statement.{statement}
@@ -43,25 +42,25 @@ add-end c =
     let s = c .before .before in
     omega (arith, c .chunk-holds .ensures, s .chunk-start .ensures, start s .pre .inside)
 
-sub-copy-in : tie.Need-sub-copy-in
+sub-copy-within : tie.Need-sub-copy-within
 unfolding holds
-sub-copy-in c = omega (arith, c .chunk-holds .ensures, start (c .before .before) .pre .fits)
+sub-copy-within c = omega (arith, c .chunk-holds .ensures, start (c .before .before) .pre .fits)
 
-part-copy-in-start : tie.Need-part-copy-in-start
+part-copy-within-start : tie.Need-part-copy-within-start
 unfolding startOf holds
-part-copy-in-start c =
+part-copy-within-start c =
     let s = c .before .before in
     omega (arith, c .chunk-holds .ensures, s .chunk-start .ensures, start s .pre .fits, start s .pre .inside)
 
-part-copy-in-end : tie.Need-part-copy-in-end
+part-copy-within-end : tie.Need-part-copy-within-end
 unfolding startOf holds
-part-copy-in-end c =
+part-copy-within-end c =
     let s = c .before .before in
     omega (arith, c .chunk-holds .ensures, s .chunk-start .ensures, start s .pre .inside)
 
-copy-in-requires : tie.Need-copy-in-requires
+copy-within-requires : tie.Need-copy-within-requires
 unfolding startOf holds
-copy-in-requires c κs =
+copy-within-requires c κs =
     let h = c .before in
     let s = h .before .before in
     simp (length-take, length-drop) (omega (arith, h .chunk-holds .ensures, s .chunk-start .ensures, start s .pre .fits, start s .pre .inside))
@@ -79,11 +78,12 @@ returns c =
     let a = start s .args in
     let from : ℕ = s .chunk-start .result in
     let end : ℕ = from + most .chunk-holds .result in
-    splice-part (a .image .now) (from + a .from) (end - (from + a .from)) (a .bytes .now) (copied .copy-in .last .0)
+    found-last
+    (spends-same (ap (λ (x : ℕ). x + a .from) (s .chunk-start .ensures)) refl
+    (spends-part (a .budget) (a .image .now) (from + a .from) (end - (from + a .from)) (a .bytes .now)
     (omega (arith, most .chunk-holds .ensures, p .fits))
     (omega (arith, most .chunk-holds .ensures, s .chunk-start .ensures, p .fits, p .inside))
-    (copied .copy-in .ensures)
-    ∙ ap (λ (x : ℕ). splice (a .image .now) (x + a .from) (a .bytes .now)) (s .chunk-start .ensures)
+    (copied .copy-within .ensures)))
 
 pub put-spec : {M : Type 1} → statement M
 put-spec =
@@ -96,9 +96,9 @@ put-spec =
     shared-slice-read-chunk-holds
     chunk-holds-requires
     add-end
-    sub-copy-in
-    part-copy-in-start
-    part-copy-in-end
-    copy-in-requires
+    sub-copy-within
+    part-copy-within-start
+    part-copy-within-end
+    copy-within-requires
     same-length
     returns)

@@ -14,6 +14,7 @@ use Rattle.format.specs.Meta2.{valueIndex}
 use Rattle.writing.specs.declared.Decision.{Decision}
 use Rattle.format.specs.Session.{State, stateOf, withCount}
 use Rattle.format.specs.Write.{Request, requestOf}
+use Rattle.format.proofs.Storing.{found-kept}
 use Rattle.writing.proofs.Decisions.{not-stored}
 use Rattle.writing.proofs.Puts.{Puts, puts}
 use Rattle.writing.proofs.request.Statement.{statement}
@@ -68,7 +69,7 @@ returns c =
     let d = c .before in
     let s = start d in
     let none = not-stored (lent s) (asked s) (sym (ap (λ (x : Decision). x .chunk) (d .decide .ensures)) ∙ c .if1 .taken) in
-    (ap (λ (x : Decision). x .refusal) (d .decide .ensures) ∙ sym (none .0), sym (none .1))
+    (ap (λ (x : Decision). x .refusal) (d .decide .ensures) ∙ sym (none .0), sym (found-kept (lent s) (asked s) (s .args .budget) (none .1)))
 
 sub-i : tie.Need-sub-i
 sub-i c = known c .there .first-task
@@ -103,8 +104,8 @@ add-cell-of c = omega (arith, known (from-put (c .before .before .before)) .smal
 cell-of-requires : tie.Need-cell-of-requires
 cell-of-requires c κs = omega (arith, known (from-put (c .before .before .before)) .small)
 
-mul-t19 : tie.Need-mul-t19
-mul-t19 c = omega (arith, small (from-put (from-cell c)))
+mul-t20 : tie.Need-mul-t20
+mul-t20 c = omega (arith, small (from-put (from-cell c)))
 
 slice-set-from-table : tie.Need-slice-set-from-table
 slice-set-from-table c = known (from-put (from-cell c)) .listed
@@ -141,7 +142,7 @@ returns-2 c =
           stateOf (a .s) (withCount (a .lists .now) (a .task - 1) chunk) image
           (set (a .table .now) (valueIndex (a .s .head .n) (chunk - 1) (a .task - 1)) value))
           (p .put .ensures) written
-          ∙ sym (known e .leaves),
+          ∙ sym (known e .leaves (a .budget)),
     )
 
 pub request-spec : {M : Type 1} → statement M
@@ -164,7 +165,7 @@ request-spec =
     put-requires
     add-cell-of
     cell-of-requires
-    mul-t19
+    mul-t20
     slice-set-from-table
     add-lists
     mul-lists

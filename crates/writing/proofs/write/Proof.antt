@@ -1,27 +1,15 @@
--- Refused by the session's tests, nothing changes; else it is the request's.
-use mathlib.Core.Path.{_≡_, sym, _∙_}
+-- A budget that is greater than every length.
+use mathlib.Core.Path.{_∙_}
 use native.Mathlib.Omega.{arith}
 use borrow.Author.Needs.{needs}
-use Rattle.format.specs.Refusals.{firstFailing}
-use Rattle.format.proofs.Refusals.{first-fails}
-use Rattle.format.specs.Session.{State, stateOf, sessionTests}
-use Rattle.format.specs.Write.{Request, requestOf, requestTests, writeRefusal}
-use Rattle.format.proofs.Outcomes.{refused-keeps}
+use Rattle.format.specs.Session.{stateOf}
+use Rattle.format.specs.Write.{requestOf}
+use Rattle.format.proofs.Storing.{write-whole}
 use Rattle.writing.proofs.write.Statement.{statement}
 use Rattle.writing.proofs.write.Tie as tie
 
-abbrev start : tie.After-session-refusal → tie.Start
-start c = let k = c .before .before .before .before in k .before .before .before
-
--- the session and the request
-abbrev lent : tie.Start → State
-lent s = let a = s .args in stateOf (a .s) (a .lists .now) (a .image .now) (a .table .now)
-
-abbrev asked : tie.Start → Request
-asked s = requestOf (s .args .task) (s .args .bytes .now)
-
-session-refusal-requires : tie.Need-session-refusal-requires
-session-refusal-requires c κs = search needs
+write-within-requires : tie.Need-write-within-requires
+write-within-requires c κs = search needs
 
 same-length : tie.Need-same-length
 same-length c = search needs
@@ -30,38 +18,13 @@ same-length-2 : tie.Need-same-length-2
 same-length-2 c = search needs
 
 returns : tie.Need-returns
-unfolding writeRefusal
 returns c =
-    let r = c .before in
-    let s = start r in
-    let e = r .session-refusal .ensures in
-    let number : writeRefusal (lent s) (asked s) ≡ firstFailing (sessionTests (lent s)) =
-    first-fails (sessionTests (lent s)) (requestTests (lent s) (asked s)) (omega (arith, e, c .if1 .taken)) in
-    (e ∙ sym number, sym (refused-keeps (lent s) (asked s) (omega (arith, number, e, c .if1 .taken))))
-
-request-requires : tie.Need-request-requires
-request-requires c κs =
-    let e = c .before .before .before in
-    (search needs, sym (e .before .session-refusal .ensures) ∙ e .if1 .left)
-
-same-length-3 : tie.Need-same-length-3
-same-length-3 c = search needs
-
-same-length-4 : tie.Need-same-length-4
-same-length-4 c = search needs
-
-returns-2 : tie.Need-returns-2
-returns-2 c = c .before .before .before .request .ensures
+    let w = c .before .before .before in
+    let z = w .before .before .before .before .before .before in
+    let a = z .args in
+    let st = stateOf (a .s) (a .lists .now) (a .image .now) (a .table .now) in
+    let done = w .write-within .ensures in
+    (done .0, done .1 ∙ write-whole st (requestOf (a .task) (a .bytes .now)) _ (omega (arith, z .good .1 .1 .1 .1 .1 .0)))
 
 pub write-spec : {M : Type 1} → statement M
-write-spec =
-    tie.close
-    (tie.spec
-    session-refusal-requires
-    same-length
-    same-length-2
-    returns
-    request-requires
-    same-length-3
-    same-length-4
-    returns-2)
+write-spec = tie.close (tie.spec write-within-requires same-length same-length-2 returns)
