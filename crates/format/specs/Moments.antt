@@ -3,7 +3,7 @@
 use mathlib.Core.Bool.{Bool, true, false}
 use mathlib.Core.List.{List, [], _∷_, _++_, map}
 use Prim.Native.Nat.{ℕ, _+_}
-use lib.IntN.{pos}
+use lib.IntN.{pos, negsuc}
 use lib.ListN.{take, drop, replicate}
 use Rattle.lists.specs.Stores.{store, byteStores, found}
 use Rattle.format.specs.Layout.{meta2Start, meta2Length}
@@ -41,7 +41,7 @@ closingGives st = map (λ (b : ℕ). loadRefusal (closeFound st b) 6)
 abbrev pub closingParts : ℕ → List ℕ
 closingParts b = let image = closeFound (twoDone 0) b in take 12 (drop 1108 image) ++ take 2 (drop 3072 image)
 
--- a write of 300 bytes, cut after 2: bytes around the second, the task's count and its first cell
+-- a write of 300 bytes to task 1, cut after 2
 abbrev pub cutWrite : State
 cutWrite = writeFound (twoOpened 0) (write 300 1) 2
 
@@ -77,7 +77,7 @@ momentTable =
     ∷ row (openingGives 1 (0 ∷ 1 ∷ 1120 ∷ 1536 ∷ 1537 ∷ [])) (0 ∷ 1 ∷ 1 ∷ 1 ∷ 10 ∷ [])
     -- a cut write: two of its bytes, but the count and the cell of the whole
     ∷ row (take 3 (drop 1536 (cutWrite .image)) ++ (countOf (cutWrite .lists) 0 ∷ loadRefusal (cutWrite .image) 6 ∷ [])) (1 ∷ 1 ∷ 0 ∷ 1 ∷ 10 ∷ [])
-    ∷ record { computed = take 2 (cutWrite .table); stated = pos 300 ∷ take 1 (drop 1 (twoOpened 0 .table)) }
+    ∷ record { computed = take 2 (cutWrite .table); stated = pos 300 ∷ negsuc 0 ∷ [] }
     -- "Closing writes META2, then maxchunks, then start_of_varheader"
     ∷ row (closingParts 0) (replicate 14 0)
     ∷ row (closingParts 1) (replicate 12 0 ++ (1 ∷ 0 ∷ []))

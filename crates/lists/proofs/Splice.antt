@@ -226,31 +226,31 @@ module _ {ℓ} {A : Type ℓ} where
           → at + w * i + w ≤ length xs → zs ≡ splice xs at (joinBelow (i + 1) f)
       join-then i e g fits = rw (join-more f i) (put-then (joinBelow i f) (f i) w (put-join i e) (same i) g fits .0)
 
+-- a place among those put, or outside them
+pub within-or-not : (at n x : ℕ) → ((at ≤ x) × (x < at + n)) ⊎ ((x < at) ⊎ (at + n ≤ x))
+within-or-not at n x = go (ltb x at) refl (leb (at + n) x) refl
+  where
+    go : (u : Bool) → ltb x at ≡ u → (v : Bool) → leb (at + n) x ≡ v → ((at ≤ x) × (x < at + n)) ⊎ ((x < at) ⊎ (at + n ≤ x))
+    go true e v f = inr (inl (ltb-true _ _ e))
+    go false e true f = inr (inr (leb-true _ _ f))
+    go false e false f = inl (ltb-false _ _ e, omega (arith, leb-false))
+
 -- an element that is none of those put is as it was
 pub splice-other {ℓ} : {A : Type ℓ} (xs : List A) (at : ℕ) (vs : List A) (x : ℕ) (d : A) → at + length vs ≤ length xs → ((j : ℕ) → j < length vs → x ≡ at + j → ⊥)
     → getD (splice xs at vs) x d ≡ getD xs x d
-splice-other xs at vs x d fits none = go (ltb x at) refl (leb (at + length vs) x) refl
-  where
-    go : (u : Bool) → ltb x at ≡ u → (v : Bool) → leb (at + length vs) x ≡ v → getD (splice xs at vs) x d ≡ getD xs x d
-    go true e v f = getD-splice-out xs at vs fits x d (inl (ltb-true _ _ e))
-    go false e true f = getD-splice-out xs at vs fits x d (inr (leb-true _ _ f))
-    go false e false f = absurd (none (x - at) (omega (arith, leb-false)) (omega (arith, ltb-false)))
+splice-other xs at vs x d fits none =
+    ⊎-elim (λ here. absurd (none (x - at) (omega arith) (omega arith))) (getD-splice-out xs at vs fits x d) (within-or-not at (length vs) x)
 
--- two lists that have the same element at a place have it there after the same is put into both
+-- two lists that have the same element at a place, unless something is put there, have the same there after the same is put into both
 pub splice-agree {ℓ} : {A : Type ℓ} (xs ys : List A) (at : ℕ) (vs : List A) (x : ℕ) (d : A) → at + length vs ≤ length xs → at + length vs ≤ length ys
-    → getD xs x d ≡ getD ys x d → getD (splice xs at vs) x d ≡ getD (splice ys at vs) x d
-splice-agree xs ys at vs x d fits fits′ same = go (ltb x at) refl (leb (at + length vs) x) refl
+    → ((x < at) ⊎ (at + length vs ≤ x) → getD xs x d ≡ getD ys x d) → getD (splice xs at vs) x d ≡ getD (splice ys at vs) x d
+splice-agree xs ys at vs x d fits fits′ same = ⊎-elim inside outside (within-or-not at (length vs) x)
   where
-    out : (x < at) ⊎ (at + length vs ≤ x) → getD (splice xs at vs) x d ≡ getD (splice ys at vs) x d
-    out past = getD-splice-out xs at vs fits x d past ∙ same ∙ sym (getD-splice-out ys at vs fits′ x d past)
+    outside : (x < at) ⊎ (at + length vs ≤ x) → getD (splice xs at vs) x d ≡ getD (splice ys at vs) x d
+    outside out = getD-splice-out xs at vs fits x d out ∙ same out ∙ sym (getD-splice-out ys at vs fits′ x d out)
 
-    go : (u : Bool) → ltb x at ≡ u → (v : Bool) → leb (at + length vs) x ≡ v → getD (splice xs at vs) x d ≡ getD (splice ys at vs) x d
-    go true e v f = out (inl (ltb-true _ _ e))
-    go false e true f = out (inr (leb-true _ _ f))
-    go false e false f =
-        let in-at : x ≡ at + (x - at) = omega (arith, ltb-false) in
-        let l : x - at < length vs = omega (arith, leb-false, ltb-false) in
-        ap (λ (i : ℕ). getD (splice xs at vs) i d) in-at
-        ∙ getD-splice-in xs at vs fits (x - at) d l
-        ∙ sym (getD-splice-in ys at vs fits′ (x - at) d l)
-        ∙ ap (λ (i : ℕ). getD (splice ys at vs) i d) (sym in-at)
+    inside : (at ≤ x) × (x < at + length vs) → getD (splice xs at vs) x d ≡ getD (splice ys at vs) x d
+    inside here =
+        let in-at : at + (x - at) ≡ x = omega arith in
+        rw (← in-at)
+        (getD-splice-in xs at vs fits (x - at) d (omega arith) ∙ sym (getD-splice-in ys at vs fits′ (x - at) d (omega arith)))

@@ -15,7 +15,7 @@ use Rattle.lists.specs.Below.{joinBelow}
 use Rattle.lists.specs.Splice.{splice}
 use Rattle.lists.specs.Stores.{Store, store, applied, byteStores, firstStores, found, Spends}
 use Rattle.lists.proofs.Below.{length-join}
-use Rattle.lists.proofs.Splice.{length-splice, splice-part, splice-next, getD-splice-in, getD-splice-out, put-none}
+use Rattle.lists.proofs.Splice.{length-splice, splice-part, splice-next, getD-splice-in, getD-splice-out, within-or-not, splice-agree, put-none}
 
 -- ---- runs of bytes, each where the last ended
 
@@ -90,7 +90,7 @@ module _ (b : ℕ) (xs : List ℕ) (at : ℕ) where
     ends = rw length-append (omega (arith, r .ends));
   }
 
-  -- the first i of numbered runs, each of w bytes: none, and one more
+  -- numbered runs, each of w bytes: the first i of them
   module _ (w : ℕ) (f : ℕ → List ℕ) (same : (j : ℕ) → length (f j) ≡ w) where
     pub runs : {ys : List ℕ} {left : ℕ} (i : ℕ) → Spends b xs at (joinBelow i f) ys left → Run (joinBelow i f) ys (at + w * i) left
     runs i s = record { spends = s; ends = rw (length-join f i w (λ j h. same j), mul-comm i w) }
@@ -168,15 +168,6 @@ length-found b xs (s ∷ ss) fit =
     let l : length (splice xs (s .at) cut) ≡ length xs = length-splice xs (s .at) cut (omega (arith, length-take-of b (s .bytes))) in
     length-found (b - length (s .bytes)) (splice xs (s .at) cut) ss (rw l (fit .1)) ∙ l
 
--- a place within a splice or not
-within-or-not : (at n j : ℕ) → ((at ≤ j) × (j < at + n)) ⊎ ((j < at) ⊎ (at + n ≤ j))
-within-or-not at n j = go (ltb j at) refl (leb (at + n) j) refl
-  where
-    go : (u : Bool) → ltb j at ≡ u → (v : Bool) → leb (at + n) j ≡ v → ((at ≤ j) × (j < at + n)) ⊎ ((j < at) ⊎ (at + n ≤ j))
-    go true e v f = inr (inl (ltb-true _ _ e))
-    go false e true f = inr (inr (leb-true _ _ f))
-    go false e false f = inl (ltb-false _ _ e, omega (arith, leb-false))
-
 -- what is found at a place where nothing is stored is what was there
 found-other : (b : ℕ) (xs : List ℕ) (ss : List Store) → Fit (length xs) ss → (j : ℕ) → (getD (found b xs ss) j 0 ≡ getD xs j 0) ⊎ Covered j ss
 unfolding found firstStores applied
@@ -206,7 +197,7 @@ unfolding applied
 applied-agree xs ys [] l fit same = ext-getD 0 xs ys l (λ j h. ⊎-elim (λ e. e) (λ c. absurd c) (same j))
 applied-agree xs ys (s ∷ ss) l fit same =
     applied-agree (splice xs (s .at) (s .bytes)) (splice ys (s .at) (s .bytes)) ss (long-x ∙ l ∙ sym long-y) (rw long-x (fit .1))
-    (λ j. go j (within-or-not (s .at) (length (s .bytes)) j) (same j))
+    (λ j. go j (same j))
   where
     fit-y : s .at + length (s .bytes) ≤ length ys
     fit-y = omega (arith, fit .0)
@@ -217,17 +208,11 @@ applied-agree xs ys (s ∷ ss) l fit same =
     long-y : length (splice ys (s .at) (s .bytes)) ≡ length ys
     long-y = length-splice ys (s .at) (s .bytes) fit-y
 
-    go : (j : ℕ) → ((s .at ≤ j) × (j < s .at + length (s .bytes))) ⊎ ((j < s .at) ⊎ (s .at + length (s .bytes) ≤ j))
-        → (getD xs j 0 ≡ getD ys j 0) ⊎ Covered j (s ∷ ss)
+    go : (j : ℕ) → (getD xs j 0 ≡ getD ys j 0) ⊎ Covered j (s ∷ ss)
         → (getD (splice xs (s .at) (s .bytes)) j 0 ≡ getD (splice ys (s .at) (s .bytes)) j 0) ⊎ Covered j ss
-    go j (inl here) known =
-        let e : s .at + (j - s .at) ≡ j = omega arith in
-        inl (rw (← e) (getD-splice-in xs (s .at) (s .bytes) (fit .0) (j - s .at) 0 (omega arith)
-        ∙ sym (getD-splice-in ys (s .at) (s .bytes) fit-y (j - s .at) 0 (omega arith))))
-    go j (inr out) (inl e) =
-        inl (getD-splice-out xs (s .at) (s .bytes) (fit .0) j 0 out ∙ e ∙ sym (getD-splice-out ys (s .at) (s .bytes) fit-y j 0 out))
-    go j (inr out) (inr (inl here)) = absurd (⊎-elim (λ l. omega arith) (λ l. omega arith) out)
-    go j (inr out) (inr (inr c)) = inr c
+    go j (inl e) = inl (splice-agree xs ys (s .at) (s .bytes) j 0 (fit .0) fit-y (λ out. e))
+    go j (inr (inl here)) = inl (splice-agree xs ys (s .at) (s .bytes) j 0 (fit .0) fit-y (λ out. absurd (⊎-elim (λ l. omega arith) (λ l. omega arith) out)))
+    go j (inr (inr c)) = inr c
 
 -- the same stores made again, after some of them
 pub applied-again : (b : ℕ) (xs : List ℕ) (ss : List Store) → Fit (length xs) ss → applied (found b xs ss) ss ≡ applied xs ss

@@ -28,7 +28,7 @@ pub fn clear(part: &mut [u8])
     }
 }
 
-// The same, as far as the budget goes; what is left of it.
+// What `copy_in` does, as far as the budget goes; what is left of it.
 pub fn copy_within(part: &mut [u8], src: &[u8], budget: u64) -> u64
     requires { ⌜ length (now src) ≤ length (now part) ⌝ }
     ensures { λ r. ⌜ Spends budget (now (part .entry)) 0 (now (src .entry)) (now (part .exit)) r ⌝ }
@@ -42,6 +42,7 @@ pub fn copy_within(part: &mut [u8], src: &[u8], budget: u64) -> u64
     budget - n
 }
 
+// What `clear` does, likewise.
 pub fn clear_within(part: &mut [u8], budget: u64) -> u64
     ensures { λ r. ⌜ Spends budget (now (part .entry)) 0 (replicate (length (now (part .entry))) 0) (now (part .exit)) r ⌝ }
 {

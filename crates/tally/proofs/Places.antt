@@ -266,7 +266,7 @@ module _ (B M : ℕ) (p : Terms) (lo : Layout B M p) where
       put r some =
           let z = spot-of p b q s r some in
           rw (z .lays m, z .lays m′)
-          (splice-agree m m′ (offsetIn p b q) (q .bytes) x 0 (fits-of m long z) (fits-of m′ long′ z) same)
+          (splice-agree m m′ (offsetIn p b q) (q .bytes) x 0 (fits-of m long z) (fits-of m′ long′ z) (λ out. same))
 
       go : {f : Outcome} → outcomeIn p b (fedOf q) ≡ f → View p (fedOf q) (b (q .task)) f
           → getD (storedIn p b m q) x 0 ≡ getD (storedIn p b m′ q) x 0
