@@ -357,7 +357,7 @@ pub fn chunk_size(size: u64, blocksize: u32) -> ByteCount {
     unsafe { lapur_chunk_size(size, blocksize) }
 }
 
-/// What an opening with this plan needs: its tests but for the lengths of image and table, 2, 5, 6, 21, 8, 9 and 20.
+/// What an opening with this plan needs: its tests but for the lengths of image and table, 2, 4, 5, 6, 21, 8, 9 and 20.
 #[inline]
 pub fn needs(plan: Plan, ranks: &[u64], sizes: &[u64], prefix: &[u8]) -> Needed {
     let (ranks_len, sizes_len, prefix_len) = (ranks.len(), sizes.len(), prefix.len());
