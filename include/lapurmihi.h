@@ -76,8 +76,8 @@ extern "C" {
 #endif
 
 /* The version of this header: 10,000 times its first number, 100 times its second, and its third. */
-#define LAPUR_VERSION 401
-#define LAPUR_VERSION_TEXT "0.4.1"
+#define LAPUR_VERSION 500
+#define LAPUR_VERSION_TEXT "0.5.0"
 
 /* The most tasks of a container, and the entries that a record has for them. */
 #define LAPUR_TASKS 64
@@ -137,7 +137,7 @@ enum lapur_refusal {
     LAPUR_TOO_LONG = 15,
     /* the task has no chunk left */
     LAPUR_NO_CHUNK_LEFT = 16,
-    /* the session or the loaded record is already closed, or its numbers or lists break a rule */
+    /* the session or the loaded record is already closed, its numbers or lists break a rule, or it is of another file than meant */
     LAPUR_BAD_RECORD = 17,
     /* the lent image or table is too short */
     LAPUR_TOO_SHORT = 18,
@@ -150,7 +150,9 @@ enum lapur_refusal {
     /* the chunk number is not from 1 to the task's count */
     LAPUR_NO_CHUNK = 22,
     /* the place p is greater than the task's total */
-    LAPUR_PAST_TOTAL = 23
+    LAPUR_PAST_TOTAL = 23,
+    /* the mapping of a pair does not fit in its first file, or is not that of its tasks' ranks */
+    LAPUR_BAD_MAPPING = 25
 };
 
 /* What a refusal number means, as a sentence. */
@@ -174,13 +176,14 @@ static inline const char *lapur_sentence(uint32_t refusal)
     case LAPUR_NO_TASK: return "there is no such task";
     case LAPUR_TOO_LONG: return "the request is longer than the task's chunk size";
     case LAPUR_NO_CHUNK_LEFT: return "the task has no chunk left";
-    case LAPUR_BAD_RECORD: return "the session or the loaded record is already closed, or its numbers or lists break a rule";
+    case LAPUR_BAD_RECORD: return "the session or the loaded record is already closed, its numbers or lists break a rule, or it is of another file than meant";
     case LAPUR_TOO_SHORT: return "the lent image or table is too short";
     case LAPUR_CELLS_DISAGREE: return "the table's cells disagree with the record";
     case LAPUR_BAD_PLANNED: return "the planned blocks K are not from 1 to 32";
     case LAPUR_LONG_PREFIX: return "the filename prefix is over 1024 bytes";
     case LAPUR_NO_CHUNK: return "the chunk number is not from 1 to the task's count";
     case LAPUR_PAST_TOTAL: return "the place p is greater than the task's total";
+    case LAPUR_BAD_MAPPING: return "the mapping of a pair does not fit in its first file, or is not that of its tasks' ranks";
     default: return "no such refusal number";
     }
 }
@@ -216,7 +219,15 @@ enum lapur_field {
     /* a task's count, in META2: 13 */
     LAPUR_FIELD_COUNT = 14,
     /* the bytes written to a chunk, or -1, in META2: 13 */
-    LAPUR_FIELD_VALUE = 15
+    LAPUR_FIELD_VALUE = 15,
+    /* mapping_size, of a pair: 25 */
+    LAPUR_FIELD_MAPPING_SIZE = 16,
+    /* the file number of an entry of the mapping; its task is its rank and 1: 25 */
+    LAPUR_FIELD_ENTRY_FILE = 17,
+    /* the local rank of an entry of the mapping: 25 */
+    LAPUR_FIELD_ENTRY_TASK = 18,
+    /* the rank of the task that an entry of the mapping names, which is another: 25 */
+    LAPUR_FIELD_ENTRY_RANK = 19
 };
 
 /* A field's name, as in the format. */
@@ -238,6 +249,10 @@ static inline const char *lapur_field_name(uint32_t field)
     case LAPUR_FIELD_TABLE: return "the table";
     case LAPUR_FIELD_COUNT: return "count";
     case LAPUR_FIELD_VALUE: return "bytes written";
+    case LAPUR_FIELD_MAPPING_SIZE: return "mapping_size";
+    case LAPUR_FIELD_ENTRY_FILE: return "mapped file number";
+    case LAPUR_FIELD_ENTRY_TASK: return "mapped local rank";
+    case LAPUR_FIELD_ENTRY_RANK: return "rank of the mapped task";
     default: return "no such field";
     }
 }
@@ -249,7 +264,8 @@ static inline const char *lapur_field_name(uint32_t field)
  * never mixed: a session is not read, and a loaded container is not written. A record belongs with its image and its table, and a call
  * takes all three: test 17 judges the record, 18 the lengths of image and table (for a session those of lapur_needs, for a loaded record
  * the container's end and n * maxchunks cells), and 19 the cells against the record. Entries past n are 0 and not judged. The closed mark
- * is 0 where it is unset; a record with any other mark is refused with 17.
+ * is 0 where it is unset; a record with any other mark is refused with 17. Every call means a single file: a record whose `files` is not
+ * 1 or whose `file` is not 0 is refused with 17 too.
  */
 
 /* The numbers of a session's record. */
@@ -260,6 +276,8 @@ struct lapur_session_numbers {
     uint32_t format;                       /* fileformat_version: LAPUR_FORMAT_3 or LAPUR_FORMAT_4 */
     uint32_t blocksize;                    /* the bytes of a file-system block, a power of two from 512 to 4,194,304 */
     uint32_t n;                            /* the number of tasks, 1 to 64 */
+    uint32_t files;                        /* nfiles, the physical files of the container: 1 */
+    uint32_t file;                         /* filenumber, which of them it is, counted from 0: 0 */
     uint32_t planned;                      /* the planned blocks K, the most chunks of a task, 1 to 32 */
     uint32_t closed;                       /* the closed mark */
 };
@@ -274,12 +292,14 @@ struct lapur_session {
 
 /* The numbers of a loaded container's record. */
 struct lapur_loaded_numbers {
-    uint32_t order;                        /* as in a session's record, and so are the next five */
+    uint32_t order;                        /* as in a session's record, and so are the next seven */
     int32_t version;
     int32_t patch;
     uint32_t format;
     uint32_t blocksize;
     uint32_t n;
+    uint32_t files;
+    uint32_t file;
     uint32_t maxchunks;                    /* the greatest number of chunks that a task used, 0 to 32 */
     uint32_t closed;                       /* the closed mark */
 };
@@ -373,17 +393,17 @@ struct lapur_byte_count {
 
 /* The sizes that these records have in the library: a compiler that is told to lay them out otherwise stops here. */
 #define LAPUR_SIZE(record, bytes) typedef char lapur_##record##_size[sizeof(struct lapur_##record) == (bytes) ? 1 : -1]
-LAPUR_SIZE(session_numbers, 32);
-LAPUR_SIZE(session, 1568);
-LAPUR_SIZE(loaded_numbers, 32);
-LAPUR_SIZE(loaded, 1568);
+LAPUR_SIZE(session_numbers, 40);
+LAPUR_SIZE(session, 1576);
+LAPUR_SIZE(loaded_numbers, 40);
+LAPUR_SIZE(loaded, 1576);
 LAPUR_SIZE(plan, 24);
 LAPUR_SIZE(needed, 24);
-LAPUR_SIZE(opened, 1576);
+LAPUR_SIZE(opened, 1584);
 LAPUR_SIZE(closed, 16);
-LAPUR_SIZE(closed_lent, 48);
+LAPUR_SIZE(closed_lent, 56);
 LAPUR_SIZE(fault, 48);
-LAPUR_SIZE(load_answer, 1624);
+LAPUR_SIZE(load_answer, 1632);
 LAPUR_SIZE(part, 24);
 LAPUR_SIZE(byte_count, 16);
 #undef LAPUR_SIZE

@@ -89,6 +89,9 @@ static int spoil_session(struct lapur_session *session, int which)
     case 12: session->numbers.format = 0; return 1;
     case 13: session->numbers.format = 5; return 1;
     case 14: session->numbers.format = LAPUR_FORMAT_4; session->counts[1] = 0; return 1;
+    case 15: session->numbers.files = 0; return 1;
+    case 16: session->numbers.files = 2; return 1;
+    case 17: session->numbers.file = 1; return 1;
     default: return 0;
     }
 }
@@ -111,6 +114,9 @@ static int spoil_loaded(struct lapur_loaded *loaded, int which)
     case 12: loaded->numbers.format = 0; return 1;
     case 13: loaded->numbers.format = 5; return 1;
     case 14: loaded->numbers.format = LAPUR_FORMAT_4; loaded->counts[1] = 0; return 1;
+    case 15: loaded->numbers.files = 0; return 1;
+    case 16: loaded->numbers.files = 2; return 1;
+    case 17: loaded->numbers.file = 1; return 1;
     default: return 0;
     }
 }
@@ -131,7 +137,7 @@ static void fill(struct session *s, uint32_t order, uint32_t format)
     struct lapur_opened opened = lapur_open(plan, ranks, TASKS, sizes, TASKS, line, LINE, s->image, BYTES, s->table, CELLS);
     hold(opened.refusal == 0, "the opening", (int)order);
     s->record = opened.session;
-    const struct lapur_session_numbers numbers = {order, -3, 77, format, 512, TASKS, K, 0};
+    const struct lapur_session_numbers numbers = {order, -3, 77, format, 512, TASKS, 1, 0, K, 0};
     uint64_t lists[LAPUR_LISTS] = {0};
     memcpy(lists, ranks, sizeof ranks);
     memcpy(lists + LAPUR_TASKS, sizes, sizeof sizes);
@@ -215,7 +221,7 @@ static void read_it(struct load *l, const struct session *s)
     hold(answer.refusal == 0 && memcmp(&answer.fault, &none, offsetof(struct lapur_fault, chunk) + sizeof none.chunk) == 0, "the load", 0);
     l->record = answer.loaded;
     const uint32_t format = s->record.numbers.format;
-    const struct lapur_loaded_numbers numbers = {s->record.numbers.order, -3, 77, format, 512, TASKS, K, 0};
+    const struct lapur_loaded_numbers numbers = {s->record.numbers.order, -3, 77, format, 512, TASKS, 1, 0, K, 0};
     hold(memcmp(&l->record.numbers, &numbers, sizeof numbers) == 0, "the numbers of a load", 0);
     l->record.numbers.version = 0;
     l->record.numbers.patch = INT32_MAX;

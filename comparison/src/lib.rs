@@ -8,22 +8,28 @@ use lapurmihi::raw::{Fault, Loaded, LoadedNumbers, Session, SessionNumbers};
 
 /// The reference's record of a session as the library has it.
 pub fn session_of(session: &reference::Session) -> Session {
-    let reference::Session { head, k: planned } = session;
-    let reference::Head { order, version, patch, format, blocksize, n, closed, .. } = *head;
-    let reference::Head { ranks, sizes, counts, .. } = *head;
-    let planned = *planned;
-    let numbers = SessionNumbers { order, version, patch, format, blocksize, n, planned, closed };
-    Session { numbers, ranks, sizes, counts }
+    let reference::Head { ranks, sizes, counts, .. } = session.head;
+    Session { numbers: session_numbers(session), ranks, sizes, counts }
+}
+
+fn session_numbers(session: &reference::Session) -> SessionNumbers {
+    let reference::Session { ref head, k: planned } = *session;
+    let reference::Head { order, version, patch, format, blocksize, n, files, file, .. } = *head;
+    let closed = head.closed;
+    SessionNumbers { order, version, patch, format, blocksize, n, files, file, planned, closed }
 }
 
 /// The reference's record of a load as the library has it.
 pub fn loaded_of(loaded: &reference::Loaded) -> Loaded {
-    let reference::Loaded { head, maxchunks } = loaded;
-    let reference::Head { order, version, patch, format, blocksize, n, closed, .. } = *head;
-    let reference::Head { ranks, sizes, counts, .. } = *head;
-    let maxchunks = *maxchunks;
-    let numbers = LoadedNumbers { order, version, patch, format, blocksize, n, maxchunks, closed };
-    Loaded { numbers, ranks, sizes, counts }
+    let reference::Head { ranks, sizes, counts, .. } = loaded.head;
+    Loaded { numbers: loaded_numbers(loaded), ranks, sizes, counts }
+}
+
+fn loaded_numbers(loaded: &reference::Loaded) -> LoadedNumbers {
+    let reference::Loaded { ref head, maxchunks } = *loaded;
+    let reference::Head { order, version, patch, format, blocksize, n, files, file, .. } = *head;
+    let closed = head.closed;
+    LoadedNumbers { order, version, patch, format, blocksize, n, files, file, maxchunks, closed }
 }
 
 /// Where the reference's load broke off as the library says it.

@@ -1,4 +1,4 @@
-//! Holds a closed container with its fields by name, and copies of it that are damaged by setting them.
+//! Holds a closed container of one file with its fields by name, and copies of it that are damaged by setting them.
 
 use crate::Order;
 
@@ -12,7 +12,7 @@ pub struct Container {
     pub meta2: usize,
 }
 
-/// The fields of both metadata blocks; tasks and chunks counted from 0.
+/// The fields of both metadata blocks, and of the mapping behind the second in a pair's file 0; tasks, chunks and ranks counted from 0.
 #[derive(Clone, Copy, Debug)]
 pub enum Field {
     Mark,
@@ -33,10 +33,13 @@ pub enum Field {
     Start,
     Count(usize),
     Cell(usize, usize),
+    MappingSize,
+    EntryFile(usize),
+    EntryTask(usize),
 }
 
 impl Container {
-    /// Takes the closed container of n tasks in `bytes`.
+    /// Takes the closed container of n tasks in `bytes`, or one file of a closed pair that has n tasks there.
     pub fn new(bytes: Vec<u8>, order: Order, n: usize) -> Container {
         let mut container = Container { bytes, order, n, maxchunks: 0, meta2: 0 };
         container.maxchunks = container.get(Field::Maxchunks) as usize;
@@ -65,7 +68,15 @@ impl Container {
             Field::Start => (1080 + 16 * self.n, 8),
             Field::Count(task) => (self.meta2 + 8 * task, 8),
             Field::Cell(chunk, task) => (self.meta2 + 8 * (self.n * (1 + chunk) + task), 8),
+            Field::MappingSize => (self.meta2_end(), 4),
+            Field::EntryFile(rank) => (self.meta2_end() + 4 + 8 * rank, 4),
+            Field::EntryTask(rank) => (self.meta2_end() + 8 + 8 * rank, 4),
         }
+    }
+
+    /// Where META2 ends, and the mapping of a pair's file 0 starts.
+    pub fn meta2_end(&self) -> usize {
+        self.meta2 + 8 * self.n * (1 + self.maxchunks)
     }
 
     pub fn get(&self, field: Field) -> i64 {

@@ -1,4 +1,4 @@
-//! Holds where a load broke off: the first field that is not as it has to be, what it says, and what it may say.
+//! Holds where a load broke off in a file: the first field that is not as it has to be, what it says, and what it may say.
 
 use std::ops::RangeInclusive;
 
@@ -23,6 +23,14 @@ pub enum Kind {
     Table = 13,
     Count = 14,
     Value = 15,
+    /// mapping_size, of a pair's file 0 as the next three are.
+    MappingSize = 16,
+    /// The file number of a mapping's entry.
+    EntryFile = 17,
+    /// The local rank of a mapping's entry.
+    EntryTask = 18,
+    /// The rank that the task carries which a mapping's entry names.
+    EntryRank = 19,
 }
 
 /// A refused load: the number, and the first offending field with its offset, its number and the least and the most that it may be.
@@ -34,7 +42,7 @@ pub struct Fault {
     pub says: i64,
     pub least: i64,
     pub most: i64,
-    /// Counted from 1; 0 where the field is of no task.
+    /// Counted from 1; 0 where the field is of no task. A mapping's entry has its rank plus 1.
     pub task: u32,
     /// Counted from 1; 0 where the field is of no chunk.
     pub chunk: u32,

@@ -7,8 +7,9 @@ use std::ops::RangeInclusive;
 pub const MARK: [u8; 4] = *b"sion";
 /// The fileformat_version in which a task that wrote nothing has chunk 1 in use all the same.
 pub const IDLE_FORMAT: u32 = 4;
+/// The most tasks of one file.
+pub const MAX_TASKS: usize = 64;
 
-pub(crate) const MAX_TASKS: usize = 64;
 pub(crate) const MAX_CHUNKS: u32 = 32;
 pub(crate) const MAX_PREFIX: usize = 1024;
 pub(crate) const MAX_RANK: u64 = 2_147_483_647;

@@ -1,35 +1,50 @@
-//! Holds the loader: every test of a container, in the paper's order, the record it leaves, and where it breaks off.
+//! Holds the loader: every test of one file, in the paper's order, the record it leaves, and where it breaks off.
 
 use crate::layout::{
     bad_rank, bad_size, blocksize_ok, maxchunks_at, meta1_end, sizes_at, start_at,
 };
 use crate::layout::{FORMATS, MARK, MAX_CHUNKS, MAX_RANK, MAX_SIZE, MAX_TASKS, RANKS_AT};
+use crate::record::{Member, SINGLE};
 use crate::{Fault, Head, Kind, Loaded, Order};
 use std::ops::RangeInclusive;
 
 /// Loads a container; tests in the order 1, 2, 3, 4, 5, 6, 7, 3, 8, 9, 10, 11, 12, 18, 13.
 pub fn load(image: &[u8], table: &mut [i64]) -> Result<Loaded, Fault> {
+    let loaded = judge_file(SINGLE, image, table)?;
+    fill(&loaded, image, table);
+    Ok(loaded)
+}
+
+/// All tests of this file of so many, over a table that stays as it is.
+pub(crate) fn judge_file(member: Member, image: &[u8], table: &[i64]) -> Result<Loaded, Fault> {
     let order = byte_order(image)?;
-    let mut head = scalars(image, order)?;
+    let mut head = scalars(member, image, order)?;
     lists(image, order, &mut head)?;
     let (maxchunks, meta2) = find_meta2(image, order, &head)?;
 
-    let need = head.tasks() * maxchunks as usize;
-    let lent = table.len() as i64;
-    let short = Fault::new(18, Kind::Table, 0, lent, need as i64..=need as i64);
-    let cells = table.get_mut(..need).ok_or(short)?;
-    counts(image, order, meta2, maxchunks, &mut head)?;
-    let first = meta2 + 8 * head.tasks();
-    values(image, order, first, maxchunks, &head)?;
+    let mut loaded = Loaded { head, maxchunks };
+    let (lent, need) = (table.len() as i64, loaded.cells() as i64);
+    Fault::new(18, Kind::Table, 0, lent, need..=need).unless(lent >= need)?;
+    counts(image, order, meta2, maxchunks, &mut loaded.head)?;
+    values(image, order, values_at(&loaded), maxchunks, &loaded.head)?;
+    Ok(loaded)
+}
 
-    for (cell, value) in cells.iter_mut().zip(order.longs(&image[first..])) {
+/// Fills the cells with the values of a file that has passed.
+pub(crate) fn fill(loaded: &Loaded, image: &[u8], table: &mut [i64]) {
+    let values = loaded.head.byte_order().longs(&image[values_at(loaded)..]);
+    for (cell, value) in table[..loaded.cells()].iter_mut().zip(values) {
         *cell = value;
     }
-    Ok(Loaded { head, maxchunks })
+}
+
+/// Where the values of META2 start.
+fn values_at(loaded: &Loaded) -> usize {
+    loaded.end() as usize - 8 * loaded.cells()
 }
 
 /// The number, if it is in its range.
-fn within(
+pub(crate) fn within(
     refusal: u32,
     kind: Kind,
     place: usize,
@@ -56,7 +71,7 @@ fn byte_order(image: &[u8]) -> Result<Order, Fault> {
 }
 
 /// Tests 3 (1076), 4, 5, 6, 7 and 3 (full).
-fn scalars(image: &[u8], order: Order) -> Result<Head, Fault> {
+fn scalars(member: Member, image: &[u8], order: Order) -> Result<Head, Fault> {
     reaches(3, image, RANKS_AT as u64)?;
     let number = |place| i64::from(order.int(image, place));
     let format = within(4, Kind::Format, 16, number(16), FORMATS)? as u32;
@@ -64,13 +79,14 @@ fn scalars(image: &[u8], order: Order) -> Result<Head, Fault> {
     let blocksize = u32::try_from(number(20)).map_err(|_| odd)?;
     odd.unless(blocksize_ok(blocksize))?;
     let n = within(6, Kind::Tasks, 24, number(24), 1..=MAX_TASKS as i64)? as u32;
-    within(7, Kind::Files, 28, number(28), 1..=1)?;
-    within(7, Kind::FileNumber, 32, number(32), 0..=0)?;
+    let Member { files, file } = member;
+    within(7, Kind::Files, 28, number(28), i64::from(files)..=i64::from(files))?;
+    within(7, Kind::FileNumber, 32, number(32), i64::from(file)..=i64::from(file))?;
     reaches(3, image, meta1_end(u64::from(n)))?;
 
     let (version, patch) = (order.int(image, 8), order.int(image, 12));
-    let order = order.number();
-    Ok(Head { order, version, patch, format, blocksize, n, closed: 0, ..Head::refused() })
+    let numbers = Head { version, patch, format, blocksize, n, files, file, ..Head::refused() };
+    Ok(Head { order: order.number(), closed: 0, ..numbers })
 }
 
 /// Tests 8 and 9; a negative number turns into one far over either bound.

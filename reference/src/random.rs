@@ -1,11 +1,11 @@
 //! Holds the random containers: sound ones of random plans, and damaged ones, all fixed by the seed.
 
 use crate::forge::Plan;
-use reference::{capacity, Container, Field, Order, Rng};
+use reference::{capacity, Container, Field, Order, Rng, MAX_TASKS};
 
 /// The bounds of the rules and of the number formats; fields are set to these or one more or less.
 const BOUNDS: [i64; 12] =
-    [0, 1, 32, 64, 256, 512, 768, 1 << 22, 1 << 30, 1 << 31, 1 << 32, i64::MIN];
+    [0, 1, 32, MAX_TASKS as i64, 256, 512, 768, 1 << 22, 1 << 30, 1 << 31, 1 << 32, i64::MIN];
 
 /// The containers of a seed with their names.
 pub fn all(seed: u64, count: u32) -> impl Iterator<Item = (String, Vec<u8>)> {
@@ -61,7 +61,7 @@ fn sound(rng: &mut Rng) -> Container {
 }
 
 fn plan(rng: &mut Rng) -> Plan {
-    let most = rng.pick(&[1, 1, 2, 2, 2, 3, 3, 3, 4, 4, 4, 5, 5, 6, 12, 64]);
+    let most = rng.pick(&[1, 1, 2, 2, 2, 3, 3, 3, 4, 4, 4, 5, 5, 6, 12, MAX_TASKS]);
     let n = 1 + rng.below(most);
     let order = rng.pick(&[Order::Little, Order::Big]);
     let sizes: Vec<u64> = (0..n).map(|_| size(rng)).collect();

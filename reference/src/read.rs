@@ -1,4 +1,5 @@
-//! Holds the reads of a loaded record: one chunk's bytes, a copying read, a task's total, and the whole container's length and prefix.
+//! Holds the reads of a loaded record: one chunk's bytes, a copying read, a task's total, and the whole container's length and prefix. What
+//! they do when the record and the task have passed serves a pair's reads too.
 
 use crate::demand;
 use crate::layout::MAX_PREFIX;
@@ -14,8 +15,21 @@ pub fn chunk<'a>(
 ) -> Result<&'a [u8], u32> {
     loaded.judge(image, table)?;
     let task = loaded.head.task(task)?;
+    let (_, written) = chunk_of(loaded, image, table, task, chunk)?;
+    Ok(written)
+}
+
+/// The start and the written bytes of one chunk, counted from 1, of a task, counted from 0; test 22.
+pub(crate) fn chunk_of<'a>(
+    loaded: &Loaded,
+    image: &'a [u8],
+    table: &[i64],
+    task: usize,
+    chunk: u64,
+) -> Result<(u64, &'a [u8]), u32> {
     demand((1..=loaded.head.counts[task]).contains(&chunk), 22)?;
-    Ok(part(loaded, image, table, task, chunk - 1))
+    let start = loaded.head.layout().chunk(task, chunk - 1);
+    Ok((start, part(loaded, image, table, task, chunk - 1)))
 }
 
 /// Copies from place `p` of a task's stream on and reports the bytes copied; tests 17, 18, 19, 14, 23.
@@ -27,8 +41,21 @@ pub fn read(
     p: u64,
     out: &mut [u8],
 ) -> Result<u64, u32> {
-    demand(p <= total(loaded, image, table, task)?, 23)?;
+    loaded.judge(image, table)?;
     let task = loaded.head.task(task)?;
+    copy_of(loaded, image, table, task, p, out)
+}
+
+/// Copies from place `p` of the stream of a task, counted from 0; test 23.
+pub(crate) fn copy_of(
+    loaded: &Loaded,
+    image: &[u8],
+    table: &[i64],
+    task: usize,
+    p: u64,
+    out: &mut [u8],
+) -> Result<u64, u32> {
+    demand(p <= total_of(loaded, table, task), 23)?;
     let (mut skip, mut done) = (p as usize, 0);
     for chunk in 0..loaded.head.counts[task] {
         let written = part(loaded, image, table, task, chunk);
@@ -45,14 +72,19 @@ pub fn read(
 pub fn total(loaded: &Loaded, image: &[u8], table: &[i64], task: u64) -> Result<u64, u32> {
     loaded.judge(image, table)?;
     let task = loaded.head.task(task)?;
+    Ok(total_of(loaded, table, task))
+}
+
+/// The length of the stream of a task, counted from 0.
+pub(crate) fn total_of(loaded: &Loaded, table: &[i64], task: usize) -> u64 {
     let chunks = 0..loaded.head.counts[task];
-    Ok(chunks.map(|chunk| cell(loaded, table, task, chunk)).sum())
+    chunks.map(|chunk| cell(loaded, table, task, chunk)).sum()
 }
 
 /// The bytes of the container; tests 17, 18, 19.
 pub fn length(loaded: &Loaded, image: &[u8], table: &[i64]) -> Result<u64, u32> {
     loaded.judge(image, table)?;
-    Ok(loaded.head.layout().end(u64::from(loaded.maxchunks)))
+    Ok(loaded.end())
 }
 
 /// The filename prefix, up to its first zero; tests 17, 18, 19.

@@ -1,10 +1,22 @@
-//! Holds the two kinds of record and the tests that every later call makes of them: 17, 18, 19 and 14.
+//! Holds the two kinds of record, each of one file, and the tests that every later call makes of them: 17, 18, 19 and 14.
 
 use crate::demand;
 use crate::layout::{blocksize_ok, capacity, format_ok, ranks_ok, sizes_ok, Layout};
 use crate::layout::{IDLE_FORMAT, MAX_CHUNKS, MAX_TASKS};
 use crate::Order;
 use std::ops::RangeInclusive;
+
+/// Which file of how many a call is for: nfiles and filenumber.
+#[derive(Clone, Copy, Debug, PartialEq, Eq)]
+pub(crate) struct Member {
+    pub files: u32,
+    pub file: u32,
+}
+
+/// A file that stands alone.
+pub(crate) const SINGLE: Member = Member { files: 1, file: 0 };
+/// The two files of a pair.
+pub(crate) const PAIR: [Member; 2] = [Member { files: 2, file: 0 }, Member { files: 2, file: 1 }];
 
 /// What both kinds of record hold; entries past n are not judged.
 #[derive(Clone, Debug, PartialEq, Eq)]
@@ -16,9 +28,13 @@ pub struct Head {
     pub format: u32,
     pub blocksize: u32,
     pub n: u32,
-    pub ranks: [u64; 64],
-    pub sizes: [u64; 64],
-    pub counts: [u64; 64],
+    /// nfiles: 1, or 2 of a pair.
+    pub files: u32,
+    /// filenumber, counted from 0.
+    pub file: u32,
+    pub ranks: [u64; MAX_TASKS],
+    pub sizes: [u64; MAX_TASKS],
+    pub counts: [u64; MAX_TASKS],
     /// 0 unset, anything else closed.
     pub closed: u32,
 }
@@ -47,6 +63,8 @@ impl Head {
             format: 0,
             blocksize: 0,
             n: 0,
+            files: 0,
+            file: 0,
             ranks: [0; MAX_TASKS],
             sizes: [0; MAX_TASKS],
             counts: [0; MAX_TASKS],
@@ -54,9 +72,19 @@ impl Head {
         }
     }
 
-    /// The number of tasks as an index bound, at most 64.
+    /// The number of tasks as an index bound, at most as many as a file may have.
     pub(crate) fn tasks(&self) -> usize {
         (self.n as usize).min(MAX_TASKS)
+    }
+
+    /// The ranks of its tasks.
+    pub(crate) fn ranks(&self) -> &[u64] {
+        &self.ranks[..self.tasks()]
+    }
+
+    /// The byte order of a sound record.
+    pub(crate) fn byte_order(&self) -> Order {
+        Order::from_number(self.order).unwrap_or(Order::Little)
     }
 
     pub(crate) fn layout(&self) -> Layout<'_> {
@@ -93,24 +121,23 @@ impl Head {
         Ok(task as usize - 1)
     }
 
-    /// What test 17 asks of both kinds of record.
-    fn sound(&self) -> bool {
+    /// What test 17 asks of both kinds of record in a call that is for this file of so many.
+    fn sound(&self, member: Member) -> bool {
         let tasks = self.tasks();
         self.closed == 0
+            && Member { files: self.files, file: self.file } == member
             && Order::from_number(self.order).is_some()
             && format_ok(self.format)
             && blocksize_ok(self.blocksize)
             && (1..=MAX_TASKS as u32).contains(&self.n)
-            && ranks_ok(&self.ranks[..tasks])
+            && ranks_ok(self.ranks())
             && sizes_ok(&self.sizes[..tasks])
             && self.counts[..tasks].iter().all(|&count| count >= self.least_count())
     }
 
-    /// Tests 18 and 19 of a sound record with `blocks` chunks to a task.
-    fn judge_lent(&self, blocks: u32, image: &[u8], table: &[i64]) -> Result<(), u32> {
+    /// Test 19 of as many cells as the record speaks of.
+    fn judge_cells(&self, cells: &[i64]) -> Result<(), u32> {
         let tasks = self.tasks();
-        demand(image.len() as u64 >= self.layout().end(u64::from(blocks)), 18)?;
-        let cells = table.get(..tasks * blocks as usize).ok_or(18u32)?;
         let right = |(i, cell)| self.values((i / tasks) as u64 + 1, i % tasks).contains(cell);
         demand(cells.iter().enumerate().all(right), 19)
     }
@@ -122,12 +149,37 @@ impl Session {
         Session { head: Head::refused(), k: 0 }
     }
 
-    /// Tests 17, 18 and 19.
-    pub(crate) fn judge(&self, image: &[u8], table: &[i64]) -> Result<(), u32> {
+    /// Where META2 ends behind K blocks, which is all that the image of a single file needs.
+    pub(crate) fn end(&self) -> u64 {
+        self.head.layout().end(u64::from(self.k))
+    }
+
+    /// The cells that the table needs.
+    pub(crate) fn cells(&self) -> usize {
+        self.head.tasks() * self.k as usize
+    }
+
+    /// What test 17 asks.
+    pub(crate) fn sound(&self, member: Member) -> bool {
         let planned = (1..=MAX_CHUNKS).contains(&self.k);
-        let within = self.head.greatest() <= u64::from(self.k);
-        demand(self.head.sound() && planned && within, 17)?;
-        self.head.judge_lent(self.k, image, table)
+        self.head.sound(member) && planned && self.head.greatest() <= u64::from(self.k)
+    }
+
+    /// Test 18 of a sound record, with room for so many bytes behind META2 of K blocks.
+    pub(crate) fn judge_lengths(&self, room: u64, image: &[u8], table: &[i64]) -> Result<(), u32> {
+        demand(image.len() as u64 >= self.end() + room && table.len() >= self.cells(), 18)
+    }
+
+    /// Tests 18 and 19 of a sound record, with room for so many bytes behind META2 of K blocks.
+    pub(crate) fn judge_lent(&self, room: u64, image: &[u8], table: &[i64]) -> Result<(), u32> {
+        self.judge_lengths(room, image, table)?;
+        self.head.judge_cells(&table[..self.cells()])
+    }
+
+    /// Tests 17, 18 and 19 of a single file.
+    pub(crate) fn judge(&self, image: &[u8], table: &[i64]) -> Result<(), u32> {
+        demand(self.sound(SINGLE), 17)?;
+        self.judge_lent(0, image, table)
     }
 }
 
@@ -137,11 +189,32 @@ impl Loaded {
         Loaded { head: Head::refused(), maxchunks: 0 }
     }
 
-    /// Tests 17, 18 and 19.
-    pub(crate) fn judge(&self, image: &[u8], table: &[i64]) -> Result<(), u32> {
+    /// Where META2 ends.
+    pub(crate) fn end(&self) -> u64 {
+        self.head.layout().end(u64::from(self.maxchunks))
+    }
+
+    /// The values of META2, and the cells that the table needs.
+    pub(crate) fn cells(&self) -> usize {
+        self.head.tasks() * self.maxchunks as usize
+    }
+
+    /// What test 17 asks.
+    pub(crate) fn sound(&self, member: Member) -> bool {
         let bounded = self.maxchunks <= MAX_CHUNKS;
         let reached = self.head.greatest() == u64::from(self.maxchunks);
-        demand(self.head.sound() && bounded && reached, 17)?;
-        self.head.judge_lent(self.maxchunks, image, table)
+        self.head.sound(member) && bounded && reached
+    }
+
+    /// Tests 18 and 19 of a sound record.
+    pub(crate) fn judge_lent(&self, image: &[u8], table: &[i64]) -> Result<(), u32> {
+        demand(image.len() as u64 >= self.end() && table.len() >= self.cells(), 18)?;
+        self.head.judge_cells(&table[..self.cells()])
+    }
+
+    /// Tests 17, 18 and 19 of a single file.
+    pub(crate) fn judge(&self, image: &[u8], table: &[i64]) -> Result<(), u32> {
+        demand(self.sound(SINGLE), 17)?;
+        self.judge_lent(image, table)
     }
 }

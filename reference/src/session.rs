@@ -3,14 +3,13 @@
 
 use crate::demand;
 use crate::drive::Drive;
-use crate::layout::{
-    blocksize_ok, format_ok, maxchunks_at, meta1_end, ranks_ok, sizes_at, sizes_ok, start_at,
-};
-use crate::layout::{IDLE_FORMAT, MARK, MAX_CHUNKS, MAX_PREFIX, MAX_TASKS, RANKS_AT};
-use crate::{Head, Order, Session};
+use crate::layout::{maxchunks_at, meta1_end, sizes_at, start_at};
+use crate::layout::{IDLE_FORMAT, MARK, RANKS_AT};
+use crate::record::SINGLE;
+use crate::{Head, Plan, Session};
 
 /// More byte stores than any call makes.
-const ENOUGH: u64 = u64::MAX;
+pub(crate) const ENOUGH: u64 = u64::MAX;
 
 /// Opens a session; tests in the order 2, 4, 5, 6, 21, 8, 9, 20, 18.
 #[allow(clippy::too_many_arguments)]
@@ -48,47 +47,37 @@ pub fn open_within(
     table: &mut [i64],
     budget: u64,
 ) -> Result<Session, u32> {
-    let bytes = Order::from_number(order).ok_or(2u32)?;
-    let n = sizes.len();
-    demand(format_ok(format), 4)?;
-    demand(blocksize_ok(blocksize), 5)?;
-    demand(ranks.len() == n && (1..=MAX_TASKS).contains(&n), 6)?;
-    demand(prefix.len() <= MAX_PREFIX, 21)?;
-    demand(ranks_ok(ranks), 8)?;
-    demand(sizes_ok(sizes), 9)?;
-    demand((1..=MAX_CHUNKS).contains(&k), 20)?;
-
-    let n = n as u32;
-    let mut head =
-        Head { order, version, patch, format, blocksize, n, closed: 0, ..Head::refused() };
-    head.ranks[..ranks.len()].copy_from_slice(ranks);
-    head.sizes[..sizes.len()].copy_from_slice(sizes);
-    demand(image.len() as u64 >= head.layout().end(u64::from(k)), 18)?;
-    let cells = table.get_mut(..sizes.len() * k as usize).ok_or(18u32)?;
-
-    begin(&mut head, cells);
-    put_meta1(&meta1(&head, bytes, prefix), head.layout().d, Drive::new(image, budget));
-    Ok(Session { head, k })
+    let plan = Plan { order, version, patch, format, blocksize, ranks, sizes, prefix, k };
+    let session = plan.session(SINGLE)?;
+    session.judge_lengths(0, image, table)?;
+    begin(&session, prefix, image, table, budget);
+    Ok(session)
 }
 
-/// The counts and the cells of a session in which nothing is written.
-fn begin(head: &mut Head, cells: &mut [i64]) {
-    let n = head.tasks();
+/// What an opening stores: the cells of a session in which nothing is written, and META1 with the zeros up to D.
+pub(crate) fn begin(
+    session: &Session,
+    prefix: &[u8],
+    image: &mut [u8],
+    table: &mut [i64],
+    budget: u64,
+) {
+    let (head, cells) = (&session.head, &mut table[..session.cells()]);
     cells.fill(-1);
     if head.format == IDLE_FORMAT {
-        head.counts[..n].fill(1);
-        cells[..n].fill(0);
+        cells[..head.tasks()].fill(0);
     }
+    put_meta1(&meta1(head, prefix), head.layout().d, Drive::new(image, budget));
 }
 
 /// META1 of a session just opened.
-fn meta1(head: &Head, order: Order, prefix: &[u8]) -> Vec<u8> {
-    let n = head.tasks();
+fn meta1(head: &Head, prefix: &[u8]) -> Vec<u8> {
+    let (n, order) = (head.tasks(), head.byte_order());
     let mut bytes = vec![0; meta1_end(n as u64) as usize];
     bytes[..4].copy_from_slice(&MARK);
-    let (format, blocksize) = (head.format as i32, head.blocksize as i32);
-    let ints = [1, head.version, head.patch, format, blocksize, n as i32, 1, 0];
-    for (i, value) in ints.into_iter().enumerate() {
+    let later = [head.format, head.blocksize, head.n, head.files, head.file];
+    let ints = [1, head.version, head.patch].into_iter().chain(later.map(|value| value as i32));
+    for (i, value) in ints.enumerate() {
         order.put_int(&mut bytes, 4 + 4 * i, value);
     }
     bytes[52..52 + prefix.len()].copy_from_slice(prefix);
@@ -129,6 +118,18 @@ pub fn write_within(
 ) -> Result<(), u32> {
     session.judge(image, table)?;
     let task = session.head.task(task)?;
+    store(session, image, table, task, bytes, budget)
+}
+
+/// Stores the bytes of one request of a task, counted from 0; empty accepted, then tests 15 and 16.
+pub(crate) fn store(
+    session: &mut Session,
+    image: &mut [u8],
+    table: &mut [i64],
+    task: usize,
+    bytes: &[u8],
+    budget: u64,
+) -> Result<(), u32> {
     if bytes.is_empty() {
         return Ok(());
     }
@@ -168,20 +169,30 @@ pub fn close_within(
     budget: u64,
 ) -> Result<u64, u32> {
     session.judge(image, table)?;
-    let head = &session.head;
-    let order = Order::from_number(head.order).ok_or(17u32)?;
-    let (n, maxchunks, layout) = (head.tasks(), head.greatest(), head.layout());
-    let (start, length) = (layout.meta2(maxchunks), layout.end(maxchunks));
+    Ok(finish(session, image, table, &[], budget))
+}
 
+/// Stores META2 and the mapping behind it, if there is any, then maxchunks and start_of_varheader; marks the session closed, and gives the
+/// container's length.
+pub(crate) fn finish(
+    session: &mut Session,
+    image: &mut [u8],
+    table: &[i64],
+    mapping: &[u8],
+    budget: u64,
+) -> u64 {
+    let (head, order) = (&session.head, session.head.byte_order());
+    let (n, maxchunks, layout) = (head.tasks(), head.greatest(), head.layout());
+    let (start, end) = (layout.meta2(maxchunks), layout.end(maxchunks));
     let counts = head.counts[..n].iter().map(|&count| count as i64);
     let values = table[..n * maxchunks as usize].iter().copied();
-    let mut meta2 = Vec::with_capacity((length - start) as usize);
-    counts.chain(values).for_each(|value| meta2.extend_from_slice(&order.long_bytes(value)));
+    let meta2: Vec<u8> = counts.chain(values).flat_map(|value| order.long_bytes(value)).collect();
 
     let mut drive = Drive::new(image, budget);
     drive.put(start as usize, &meta2);
+    drive.put(end as usize, mapping);
     drive.put(maxchunks_at(n), &order.int_bytes(maxchunks as i32));
     drive.put(start_at(n), &order.long_bytes(start as i64));
     session.head.closed = 1;
-    Ok(length)
+    end + mapping.len() as u64
 }

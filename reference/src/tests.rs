@@ -1,7 +1,8 @@
-//! Holds the papers' numbers to check by, tests of hostile records, of power cuts, and of where a load breaks off.
+//! Holds the papers' numbers to check by, tests of hostile records, of power cuts, of where a load breaks off, and of pairs.
 
 mod cuts;
 mod faults;
+mod pairs;
 
 use crate::*;
 

@@ -4,7 +4,7 @@ mod accepted;
 mod refused;
 
 use crate::forge::Plan;
-use reference::{Container, Field, Order};
+use reference::{Container, Field, Order, MAX_TASKS};
 
 const I32: [i64; 2] = [i32::MIN as i64, i32::MAX as i64];
 const I64: [i64; 2] = [i64::MIN, i64::MAX];
@@ -111,7 +111,7 @@ impl Bases {
 
 /// Requests whose bytes tell task and place in the stream; byte i of task 1 is i mod 251 + 1.
 fn visible(lengths: &[(u64, usize)]) -> Vec<(u64, Vec<u8>)> {
-    let mut places = [0; 65];
+    let mut places = [0; MAX_TASKS + 1];
     let request = |&(task, length): &(u64, usize)| {
         let from = places[task as usize];
         places[task as usize] += length;

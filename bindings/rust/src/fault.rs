@@ -42,6 +42,10 @@ fields! {
     Table = 13 "the table"
     Count = 14 "count"
     Value = 15 "bytes written"
+    MappingSize = 16 "mapping_size"
+    EntryFile = 17 "mapped file number"
+    EntryTask = 18 "mapped local rank"
+    EntryRank = 19 "rank of the mapped task"
 }
 
 impl Field {

@@ -36,6 +36,10 @@ pub struct SessionNumbers {
     pub blocksize: u32,
     /// The number of tasks.
     pub n: u32,
+    /// nfiles, the physical files of the container: 1.
+    pub files: u32,
+    /// filenumber, which of them it is, counted from 0: 0.
+    pub file: u32,
     /// The planned blocks.
     pub planned: u32,
     /// 0 as long as the session is open.
@@ -72,6 +76,10 @@ pub struct LoadedNumbers {
     pub blocksize: u32,
     /// The number of tasks.
     pub n: u32,
+    /// nfiles, the physical files of the container: 1.
+    pub files: u32,
+    /// filenumber, which of them it is, counted from 0: 0.
+    pub file: u32,
     /// The greatest number of chunks that a task used.
     pub maxchunks: u32,
     /// 0 in an accepted load.

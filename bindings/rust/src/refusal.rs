@@ -57,13 +57,14 @@ refusals! {
     NoTask = 14 "NO_TASK" "there is no such task"
     TooLong = 15 "TOO_LONG" "the request is longer than the task's chunk size"
     NoChunkLeft = 16 "NO_CHUNK_LEFT" "the task has no chunk left"
-    BadRecord = 17 "BAD_RECORD" "the session or the loaded record is already closed, or its numbers or lists break a rule"
+    BadRecord = 17 "BAD_RECORD" "the session or the loaded record is already closed, its numbers or lists break a rule, or it is of another file than meant"
     TooShort = 18 "TOO_SHORT" "the lent image or table is too short"
     CellsDisagree = 19 "CELLS_DISAGREE" "the table's cells disagree with the record"
     BadPlanned = 20 "BAD_PLANNED" "the planned blocks K are not from 1 to 32"
     LongPrefix = 21 "LONG_PREFIX" "the filename prefix is over 1024 bytes"
     NoChunk = 22 "NO_CHUNK" "the chunk number is not from 1 to the task's count"
     PastTotal = 23 "PAST_TOTAL" "the place p is greater than the task's total"
+    BadMapping = 25 "BAD_MAPPING" "the mapping of a pair does not fit in its first file, or is not that of its tasks' ranks"
 }
 
 impl Refusal {

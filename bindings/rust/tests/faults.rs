@@ -110,9 +110,9 @@ fn what_is_of_no_task_has_none() {
 }
 
 #[test]
-fn fields_have_the_numbers_1_to_15_and_names_of_their_own() {
+fn fields_have_the_numbers_1_to_19_and_names_of_their_own() {
     let numbers: Vec<u32> = Field::ALL.iter().map(|field| field.number()).collect();
-    assert_eq!(numbers, (1..=15).collect::<Vec<_>>());
+    assert_eq!(numbers, (1..=19).collect::<Vec<_>>());
     for (at, field) in Field::ALL.iter().enumerate() {
         assert!(Field::ALL[..at].iter().all(|other| other.name() != field.name()), "{field:?}");
     }

@@ -17,6 +17,8 @@ const NO_SESSION: Session = Session {
         format: 0,
         blocksize: 0,
         n: 0,
+        files: 0,
+        file: 0,
         planned: 0,
         closed: 1,
     },
@@ -34,6 +36,8 @@ const NOT_LOADED: Loaded = Loaded {
         format: 0,
         blocksize: 0,
         n: 0,
+        files: 0,
+        file: 0,
         maxchunks: 0,
         closed: 1,
     },
@@ -51,16 +55,27 @@ fn plan(order: u32) -> Plan {
     Plan { order, version, patch, format: 3 + order, blocksize: 1024, planned }
 }
 
-/// The record of its session just opened: the most tasks, each with a rank and a size of its own.
-fn session(order: u32) -> Session {
+/// The numbers of its session just opened, which is one of a single file.
+fn session_numbers(order: u32) -> SessionNumbers {
     let Plan { version, patch, format, blocksize, planned, .. } = plan(order);
-    let n = TASKS as u32;
-    let numbers =
-        SessionNumbers { order, version, patch, format, blocksize, n, planned, closed: 0 };
+    let (n, files, file, closed) = (TASKS as u32, 1, 0, 0);
+    SessionNumbers { order, version, patch, format, blocksize, n, files, file, planned, closed }
+}
+
+/// The record of it: the most tasks, each with a rank and a size of its own.
+fn session(order: u32) -> Session {
+    let numbers = session_numbers(order);
     let ranks = std::array::from_fn(|task| 1_000_000 + task as u64);
     let sizes = std::array::from_fn(|task| 1 + 3 * task as u64);
-    let begun = u64::from(format - 3);
+    let begun = u64::from(numbers.format - 3);
     Session { numbers, ranks, sizes, counts: [begun; TASKS] }
+}
+
+/// The numbers of the load of that session, in which a task begins every planned chunk.
+fn loaded_numbers(numbers: SessionNumbers) -> LoadedNumbers {
+    let SessionNumbers { order, version, patch, format, blocksize, n, files, file, .. } = numbers;
+    let (maxchunks, closed) = (numbers.planned, 0);
+    LoadedNumbers { order, version, patch, format, blocksize, n, files, file, maxchunks, closed }
 }
 
 /// The chunks that each task begins.
@@ -92,16 +107,16 @@ fn with(mut counts: [u64; TASKS], task: usize, count: u64) -> [u64; TASKS] {
 
 #[test]
 fn a_record_is_its_numbers_and_behind_them_its_lists_with_no_gap() {
-    assert_eq!([size_of::<SessionNumbers>(), size_of::<LoadedNumbers>()], [32; 2]);
+    assert_eq!([size_of::<SessionNumbers>(), size_of::<LoadedNumbers>()], [40; 2]);
     assert_eq!(size_of::<Plan>(), 24);
     let session =
         [offset_of!(Session, ranks), offset_of!(Session, sizes), offset_of!(Session, counts)];
     let loaded = [offset_of!(Loaded, ranks), offset_of!(Loaded, sizes), offset_of!(Loaded, counts)];
-    assert_eq!([session, loaded], [[32, 32 + 512, 32 + 1024]; 2]);
-    assert_eq!([size_of::<Session>(), size_of::<Loaded>()], [32 + 3 * 512; 2]);
-    assert_eq!([offset_of!(Opened, refusal), offset_of!(LoadAnswer, refusal)], [32 + 3 * 512; 2]);
-    assert_eq!(offset_of!(LoadAnswer, fault), 40 + 3 * 512);
-    assert_eq!([size_of::<Opened>(), size_of::<LoadAnswer>()], [1576, 1576 + 48]);
+    assert_eq!([session, loaded], [[40, 40 + 512, 40 + 1024]; 2]);
+    assert_eq!([size_of::<Session>(), size_of::<Loaded>()], [40 + 3 * 512; 2]);
+    assert_eq!([offset_of!(Opened, refusal), offset_of!(LoadAnswer, refusal)], [40 + 3 * 512; 2]);
+    assert_eq!(offset_of!(LoadAnswer, fault), 48 + 3 * 512);
+    assert_eq!([size_of::<Opened>(), size_of::<LoadAnswer>()], [1584, 1584 + 48]);
 }
 
 #[test]
@@ -134,11 +149,8 @@ fn records_survive_the_library() {
         assert_eq!(session, Session { numbers, ..before });
 
         let mut table = vec![0; CELLS];
-        let SessionNumbers { version, patch, format, blocksize, n, planned: maxchunks, .. } =
-            numbers;
-        let numbers =
-            LoadedNumbers { order, version, patch, format, blocksize, n, maxchunks, closed: 0 };
-        let used = counts().map(|count| count.max(u64::from(format - 3)));
+        let numbers = loaded_numbers(numbers);
+        let used = counts().map(|count| count.max(u64::from(numbers.format - 3)));
         let loaded = Loaded { numbers, ranks, sizes, counts: used };
         let fault = Fault::default();
         assert_eq!(raw::load(&image, &mut table), LoadAnswer { loaded, refusal: 0, fault });
@@ -226,6 +238,10 @@ fn reads_test_the_record_and_the_memory_first() {
     };
     let fewer = LoadedNumbers { maxchunks: 0, ..loaded.numbers };
     assert_eq!(numbers(&Loaded { numbers: fewer, ..loaded }, SAMPLE, &table), [17; 3]);
+    for (files, file) in [(0, 0), (2, 0), (2, 1), (1, 1)] {
+        let other = LoadedNumbers { files, file, ..loaded.numbers };
+        assert_eq!(numbers(&Loaded { numbers: other, ..loaded }, short, &table), [17; 3]);
+    }
     assert_eq!(numbers(&loaded, short, &table), [18; 3]);
     assert_eq!(numbers(&loaded, SAMPLE, &table[..1]), [18; 3]);
     assert_eq!(numbers(&loaded, SAMPLE, &[513, -1]), [19; 3]);

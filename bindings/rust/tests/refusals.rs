@@ -25,11 +25,12 @@ fn the_page_and_the_crate_agree() {
 }
 
 #[test]
-fn the_numbers_are_1_to_23() {
-    for (number, &refusal) in (1..).zip(Refusal::ALL) {
+fn the_numbers_are_1_to_23_and_25() {
+    assert_eq!(Refusal::ALL.len(), 24);
+    for (number, &refusal) in (1..=23).chain([25]).zip(Refusal::ALL) {
         assert_eq!(Refusal::try_from(number), Ok(refusal));
     }
-    for number in [0, 24, u32::MAX] {
+    for number in [0, 24, 26, u32::MAX] {
         assert_eq!(Refusal::try_from(number), Err(number));
     }
 }

@@ -4,6 +4,7 @@ ghost use Prim.Native.Nat.{_+_, _≤_};
 ghost use lib.IntN.{pos};
 ghost use lib.ListN.{length};
 ghost use Rattle.endian.specs.Signed.{within};
+ghost use Rattle.format.specs.declared.head.File.the-variants.{Single};
 ghost use Rattle.format.specs.declared.loaded.Loaded.{Loaded};
 ghost use Rattle.format.specs.declared.loaded.Part.{Part};
 ghost use Rattle.format.specs.declared.loaded.ByteCount.{ByteCount};
@@ -13,6 +14,7 @@ ghost use Rattle.format.specs.Reads.{containerOf};
 ghost use Rattle.format.specs.About.{chunkSizeAnswer, beforeZero, lengthAnswer, prefixAnswer};
 use format::field;
 use format::head;
+use format::head::File;
 use format::head::LISTS;
 use format::limit;
 use format::loaded::ByteCount;
@@ -59,9 +61,9 @@ fn end_of(l: Loaded, lists: &[u64]) -> u64
 
 // The bytes of the container, up to the end of META2.
 pub fn whole_length(l: Loaded, lists: &[u64; LISTS], image: &[u8], table: &[i64]) -> ByteCount
-    ensures { λ r. ⌜ r ≡ lengthAnswer (containerOf l (now (lists .entry)) (now (image .entry)) (now (table .entry))) ⌝ }
+    ensures { λ r. ⌜ r ≡ lengthAnswer (containerOf Single l (now (lists .entry)) (now (image .entry)) (now (table .entry))) ⌝ }
 {
-    let refusal = records::loaded_refusal(l, lists, image, table);
+    let refusal = records::loaded_refusal(File::Single, l, lists, image, table);
     if refusal != 0 {
         return ByteCount { refusal, bytes: 0 };
     }
@@ -86,10 +88,10 @@ fn before_zero(bytes: &[u8]) -> usize
 
 // Where the filename prefix lies in the image, without the zeros that follow it.
 pub fn prefix(l: Loaded, lists: &[u64; LISTS], image: &[u8], table: &[i64]) -> Part
-    ensures { λ r. ⌜ r ≡ prefixAnswer (containerOf l (now (lists .entry)) (now (image .entry)) (now (table .entry))) ⌝ }
+    ensures { λ r. ⌜ r ≡ prefixAnswer (containerOf Single l (now (lists .entry)) (now (image .entry)) (now (table .entry))) ⌝ }
     ensures { λ r. ⌜ r .start + r .length ≤ length (now (image .entry)) ⌝ }
 {
-    let refusal = records::loaded_refusal(l, lists, image, table);
+    let refusal = records::loaded_refusal(File::Single, l, lists, image, table);
     if refusal != 0 {
         return Part {
             refusal,

@@ -3,23 +3,33 @@ ghost use mathlib.Core.Path.{_≡_};
 ghost use Prim.Native.Nat.{_+_, _-_, _*_, _<_, _≤_};
 ghost use lib.ListN.{length};
 ghost use Rattle.format.specs.Refusals.{firstFailing};
-ghost use Rattle.format.specs.Record.{allLists};
+ghost use Rattle.format.specs.Record.{allLists, fileIn};
+ghost use Rattle.format.specs.declared.head.File.{File};
+ghost use Rattle.format.specs.declared.head.File.the-variants.{Single};
 ghost use Rattle.format.specs.declared.loaded.Loaded.{Loaded};
 ghost use Rattle.format.specs.declared.loaded.Part.{Part};
 ghost use Rattle.format.specs.Reads.{containerOf, readTests, chunksUsed, chunkBytes, chunkRefusal, chunkPart, chunkPlace, partAnswer};
 ghost use Rattle.format.specs.Passed.{Readable};
 use format::head;
+use format::head::File;
 use format::head::LISTS;
 use format::loaded::Loaded;
 use format::loaded::Part;
 use format::refusal;
 
-// Tests 17, 18, 19 and 14.
-pub fn read_refusal(l: Loaded, lists: &[u64], image: &[u8], table: &[i64], task: u64) -> u32
+// Tests 17, 18, 19 and 14, of the file that the call means.
+pub fn read_refusal(
+    file: File,
+    l: Loaded,
+    lists: &[u64],
+    image: &[u8],
+    table: &[i64],
+    task: u64,
+) -> u32
     requires { ⌜ length (now lists) ≡ allLists ⌝ }
-    ensures { λ r. ⌜ r ≡ firstFailing (readTests (containerOf l (now (lists .entry)) (now (image .entry)) (now (table .entry))) task) ⌝ }
+    ensures { λ r. ⌜ r ≡ firstFailing (readTests (containerOf file l (now (lists .entry)) (now (image .entry)) (now (table .entry))) task) ⌝ }
 {
-    let first = records::loaded_refusal(l, lists, image, table);
+    let first = records::loaded_refusal(file, l, lists, image, table);
     if first != 0 {
         return first;
     }
@@ -34,9 +44,9 @@ pub fn read_refusal(l: Loaded, lists: &[u64], image: &[u8], table: &[i64], task:
 
 // Where the written bytes of a chunk that the tests allow lie in the image.
 fn part_of(l: Loaded, lists: &[u64], image: &[u8], table: &[i64], task: u64, chunk: u64) -> Part
-    requires { ⌜ Readable (containerOf l (now lists) (now image) (now table)) task ⌝ }
-    requires { ⌜ (1 ≤ chunk) × (chunk ≤ chunksUsed (containerOf l (now lists) (now image) (now table)) task) ⌝ }
-    ensures { λ r. ⌜ r ≡ chunkPlace (containerOf l (now (lists .entry)) (now (image .entry)) (now (table .entry))) task chunk ⌝ }
+    requires { ⌜ Readable (containerOf (fileIn (l .head)) l (now lists) (now image) (now table)) task ⌝ }
+    requires { ⌜ (1 ≤ chunk) × (chunk ≤ chunksUsed (containerOf (fileIn (l .head)) l (now lists) (now image) (now table)) task) ⌝ }
+    ensures { λ r. ⌜ r ≡ chunkPlace (containerOf (fileIn (l .head)) l (now (lists .entry)) (now (image .entry)) (now (table .entry))) task chunk ⌝ }
     ensures { λ r. ⌜ r .start + r .length ≤ length (now (image .entry)) ⌝ }
 {
     let h = l.head;
@@ -60,9 +70,9 @@ pub fn chunk_part<'a>(
     task: u64,
     chunk: u64,
 ) -> &'a [u8]
-    requires { ⌜ Readable (containerOf l (now lists) (now image) (now table)) task ⌝ }
-    requires { ⌜ (1 ≤ chunk) × (chunk ≤ chunksUsed (containerOf l (now lists) (now image) (now table)) task) ⌝ }
-    ensures { λ r. ⌜ now r ≡ chunkBytes (containerOf l (now (lists .entry)) (now (image .entry)) (now (table .entry))) task chunk ⌝ }
+    requires { ⌜ Readable (containerOf (fileIn (l .head)) l (now lists) (now image) (now table)) task ⌝ }
+    requires { ⌜ (1 ≤ chunk) × (chunk ≤ chunksUsed (containerOf (fileIn (l .head)) l (now lists) (now image) (now table)) task) ⌝ }
+    ensures { λ r. ⌜ now r ≡ chunkBytes (containerOf (fileIn (l .head)) l (now (lists .entry)) (now (image .entry)) (now (table .entry))) task chunk ⌝ }
 {
     let part = part_of(l, lists, image, table, task, chunk);
     let start = part.start as usize;
@@ -79,9 +89,9 @@ pub fn chunk_refusal(
     task: u64,
     chunk: u64,
 ) -> u32
-    ensures { λ r. ⌜ r ≡ chunkRefusal (containerOf l (now (lists .entry)) (now (image .entry)) (now (table .entry))) task chunk ⌝ }
+    ensures { λ r. ⌜ r ≡ chunkRefusal (containerOf Single l (now (lists .entry)) (now (image .entry)) (now (table .entry))) task chunk ⌝ }
 {
-    let first = read_refusal(l, lists, image, table, task);
+    let first = read_refusal(File::Single, l, lists, image, table, task);
     if first != 0 {
         return first;
     }
@@ -104,7 +114,7 @@ pub fn chunk<'a>(
     task: u64,
     chunk: u64,
 ) -> &'a [u8]
-    ensures { λ r. ⌜ now r ≡ chunkPart (containerOf l (now (lists .entry)) (now (image .entry)) (now (table .entry))) task chunk ⌝ }
+    ensures { λ r. ⌜ now r ≡ chunkPart (containerOf Single l (now (lists .entry)) (now (image .entry)) (now (table .entry))) task chunk ⌝ }
 {
     if chunk_refusal(l, lists, image, table, task, chunk) != 0 {
         return &image[0..0];
@@ -121,7 +131,7 @@ pub fn part(
     task: u64,
     chunk: u64,
 ) -> Part
-    ensures { λ r. ⌜ r ≡ partAnswer (containerOf l (now (lists .entry)) (now (image .entry)) (now (table .entry))) task chunk ⌝ }
+    ensures { λ r. ⌜ r ≡ partAnswer (containerOf Single l (now (lists .entry)) (now (image .entry)) (now (table .entry))) task chunk ⌝ }
     ensures { λ r. ⌜ r .start + r .length ≤ length (now (image .entry)) ⌝ }
 {
     let refusal = chunk_refusal(l, lists, image, table, task, chunk);

@@ -4,6 +4,7 @@ ghost use Prim.Native.Nat.{_≤_};
 ghost use lib.ListN.{length};
 ghost use Rattle.format.specs.Limits.{maxTasks};
 ghost use Rattle.format.specs.declared.head.Head.{Head};
+ghost use Rattle.format.specs.declared.head.File.the-variants.{Single};
 ghost use Rattle.format.specs.Record.{allLists, sizeOf, endAt};
 ghost use Rattle.format.specs.declared.session.Session.{Session};
 ghost use Rattle.format.specs.declared.session.Closed.{Closed};
@@ -12,6 +13,7 @@ ghost use Rattle.lists.specs.Stores.{found};
 ghost use Rattle.format.specs.Close.{maxchunksOf, closingStores, closeAnswer, closeImage, closeFound};
 ghost use Rattle.format.specs.Passed.{Meta2Fits};
 use format::head;
+use format::head::File;
 use format::head::Head;
 use format::head::LISTS;
 use format::limit;
@@ -19,7 +21,7 @@ use format::session::Closed;
 use format::session::Session;
 
 // The greatest of the counts.
-fn most_chunks(lists: &[u64], n: u32) -> u64
+pub fn most_chunks(lists: &[u64], n: u32) -> u64
     requires { ⌜ (length (now lists) ≡ allLists) × (n ≤ maxTasks) ⌝ }
     ensures { λ r. ⌜ r ≡ maxchunksOf n (now (lists .entry)) ⌝ }
 {
@@ -27,7 +29,7 @@ fn most_chunks(lists: &[u64], n: u32) -> u64
 }
 
 // META2, then the fields that say how long it is and where: the end of META2.
-fn finish(
+pub fn finish(
     h: Head,
     lists: &[u64],
     maxchunks: u32,
@@ -70,10 +72,10 @@ pub fn close_within(
     table: &[i64],
     budget: u64,
 ) -> Closed
-    ensures { λ r. ⌜ r ≡ closeAnswer (stateOf s (now (lists .entry)) (now (image .entry)) (now (table .entry))) ⌝ }
-    ensures { λ _. ⌜ now (image .exit) ≡ closeFound (stateOf s (now (lists .entry)) (now (image .entry)) (now (table .entry))) budget ⌝ }
+    ensures { λ r. ⌜ r ≡ closeAnswer (stateOf Single s (now (lists .entry)) (now (image .entry)) (now (table .entry))) ⌝ }
+    ensures { λ _. ⌜ now (image .exit) ≡ closeFound (stateOf Single s (now (lists .entry)) (now (image .entry)) (now (table .entry))) budget ⌝ }
 {
-    let refusal = records::session_refusal(s, lists, image, table);
+    let refusal = records::session_refusal(File::Single, s, lists, image, table);
     if refusal != 0 {
         return Closed {
             refusal,
@@ -94,8 +96,8 @@ pub fn close_within(
 
 // The same, with all of its stores.
 pub fn close(s: Session, lists: &[u64; LISTS], image: &mut [u8], table: &[i64]) -> Closed
-    ensures { λ r. ⌜ r ≡ closeAnswer (stateOf s (now (lists .entry)) (now (image .entry)) (now (table .entry))) ⌝ }
-    ensures { λ _. ⌜ now (image .exit) ≡ closeImage (stateOf s (now (lists .entry)) (now (image .entry)) (now (table .entry))) ⌝ }
+    ensures { λ r. ⌜ r ≡ closeAnswer (stateOf Single s (now (lists .entry)) (now (image .entry)) (now (table .entry))) ⌝ }
+    ensures { λ _. ⌜ now (image .exit) ≡ closeImage (stateOf Single s (now (lists .entry)) (now (image .entry)) (now (table .entry))) ⌝ }
 {
     close_within(s, lists, image, table, limit::ENDLESS)
 }

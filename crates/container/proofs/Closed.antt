@@ -30,7 +30,7 @@ module _ (o : Opening) (st : State) (c : Closable o st) (tail : List ℕ) where
   few : m ≤ maxBlocks
   few = closing o st c .few
 
-  pub has-meta1 : VersionsFit o → HasMeta1 (closedAs st tail) (contentsOf o st)
+  pub has-meta1 : VersionsFit o → HasMeta1 (o .file) (closedAs st tail) (contentsOf o st)
   unfolding openHead
   has-meta1 fit =
       let small = meta2End-small (plan-sound o (c .plan)) m few in

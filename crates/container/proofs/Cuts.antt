@@ -58,9 +58,9 @@ record Waiting (o : Opening) (image : List ℕ) : Type 0 where
   pub start : take 8 (drop (startAt (tasks o)) image) ≡ replicate 8 0
 
 module _ (o : Opening) (p : PlanHolds o) where
-  waiting-10 : (image : List ℕ) → Waiting o image → Gives 10 image
+  waiting-10 : (image : List ℕ) → Waiting o image → Gives (o .file) 10 image
   waiting-10 image w cells =
-      load-number image cells
+      load-number (o .file) image cells
       ∙ refused-10 o p image (w .long) (w .front)
       (ap (λ (l : List ℕ). signed (signBit 8) (number (isBig (openHead o)) l)) (w .start) ∙ none (isBig (openHead o))) (length cells)
     where
@@ -118,9 +118,9 @@ module _ (o : Opening) (image : List ℕ) (table : List ℤ) (accepted : openRef
   unfolding openFound
   nothing-yet = found-none image _
 
-  opening-1 : (b : ℕ) → 1 ≤ b → b ≤ dataStart (o .plan .blocksize) (tasks o) → Gives 1 (openFound o image table b)
+  opening-1 : (b : ℕ) → 1 ≤ b → b ≤ dataStart (o .plan .blocksize) (tasks o) → Gives (o .file) 1 (openFound o image table b)
   opening-1 b some last cells =
-      load-number (openFound o image table b) cells ∙ refused-1 (openFound o image table b) (first-zero o image table accepted b some last) (length cells)
+      load-number (o .file) (openFound o image table b) cells ∙ refused-1 (o .file) (openFound o image table b) (first-zero o image table accepted b some last) (length cells)
 
   opening-done : (b : ℕ) → dataStart (o .plan .blocksize) (tasks o) + 1 ≤ b → openFound o image table b ≡ openImage o image table
   opening-done b l =
@@ -148,7 +148,7 @@ module _ (s : Start) (is : IsStart s) (waits : Waiting (s .plan) (s .state .imag
         waiting-kept o plan-kept (s .state .image) (st .image) waits (room s is qs .placed .as-long)
         (λ j h. first-same _ (s .state .image) (st .image) (front-kept (is .follows) qs) j (before-data o plan-kept j h))
 
-    session-10 : Gives 10 (st .image)
+    session-10 : Gives (o .file) 10 (st .image)
     session-10 = waiting-10 o plan-kept (st .image) session-waits
 
     module _ (q : Request) (b : ℕ) where
@@ -159,7 +159,7 @@ module _ (s : Start) (is : IsStart s) (waits : Waiting (s .plan) (s .state .imag
       unmoved : (j : ℕ) → getD (afterWrite st q .image) j 0 ≡ getD (st .image) j 0 → getD cut j 0 ≡ getD (st .image) j 0
       unmoved j same = ⊎-elim (λ e. e) (λ e. e ∙ same) (write-either st q b j)
 
-      write-10 : Gives 10 cut
+      write-10 : Gives (o .file) 10 cut
       unfolding openSession openHead
       write-10 =
           waiting-10 o plan-kept cut
@@ -229,7 +229,7 @@ module _ (s : Start) (is : IsStart s) (waits : Waiting (s .plan) (s .state .imag
           ∙ session-waits .front
 
       -- no byte of start_of_varheader is stored yet
-      early-10 : b ≤ meta2Bytes s qs + 4 → Gives 10 (closeFound st b)
+      early-10 : b ≤ meta2Bytes s qs + 4 → Gives (o .file) 10 (closeFound st b)
       unfolding meta1End
       early-10 early =
           rw cut-is
@@ -240,7 +240,7 @@ module _ (s : Start) (is : IsStart s) (waits : Waiting (s .plan) (s .state .imag
 
       -- by what it says then
       late : meta2Bytes s qs + 4 ≤ b
-          → Gives 10 (closeFound st b) ⊎ (Gives 12 (closeFound st b) ⊎ (closeFound st b ≡ closeImage st))
+          → Gives (o .file) 10 (closeFound st b) ⊎ (Gives (o .file) 12 (closeFound st b) ⊎ (closeFound st b ≡ closeImage st))
       unfolding closeImage
       late l = rw cut-is (go (sameZ z (pos 0)) refl (sameZ z (pos at)) refl)
         where
@@ -261,20 +261,20 @@ module _ (s : Start) (is : IsStart s) (waits : Waiting (s .plan) (s .state .imag
           other : (v : ℕ) → sameZ z (pos v) ≡ false → Not (z ≡ pos v)
           other v f e = false≢true (sym f ∙ ap (λ (x : ℤ). sameZ x (pos v)) e ∙ sameZ-refl (pos v))
 
-          go : (t : Bool) → sameZ z (pos 0) ≡ t → (u : Bool) → sameZ z (pos at) ≡ u → Gives 10 ys ⊎ (Gives 12 ys ⊎ (ys ≡ applied (st .image) (closeStores st)))
-          go true e u f = inl (λ cells. load-number ys cells ∙ refused-10 o plan-kept ys long cut-front (sameZ-eq z (pos 0) e) (length cells))
+          go : (t : Bool) → sameZ z (pos 0) ≡ t → (u : Bool) → sameZ z (pos at) ≡ u → Gives (o .file) 10 ys ⊎ (Gives (o .file) 12 ys ⊎ (ys ≡ applied (st .image) (closeStores st)))
+          go true e u f = inl (λ cells. load-number (o .file) ys cells ∙ refused-10 o plan-kept ys long cut-front (sameZ-eq z (pos 0) e) (length cells))
           go false e true f =
               inr (inr (all-there (st .image) (tasks o) m at big second at far inside b stored zero-before small
               (signed-pos (signBit 8) _ at (sameZ-eq z (pos at) f)) ∙ ap (applied (st .image)) (sym stores-are)))
           go false e false f =
-              inr (inl (λ cells. load-number ys cells
+              inr (inl (λ cells. load-number (o .file) ys cells
               ∙ refused-12 o plan-kept ys long cut-front m (closing o st closable-here .few)
               (maxchunks-said (st .image) (tasks o) m at big second at far inside b stored (omega (arith, closing o st closable-here .few))) (other 0 e) (other at f) (length cells)))
 
-      ways : Gives 10 (closeFound st b) ⊎ (Gives 12 (closeFound st b) ⊎ (closeFound st b ≡ closeImage st))
+      ways : Gives (o .file) 10 (closeFound st b) ⊎ (Gives (o .file) 12 (closeFound st b) ⊎ (closeFound st b ≡ closeImage st))
       ways = go (leb b (meta2Bytes s qs + 4)) refl
         where
-          go : (t : Bool) → leb b (meta2Bytes s qs + 4) ≡ t → Gives 10 (closeFound st b) ⊎ (Gives 12 (closeFound st b) ⊎ (closeFound st b ≡ closeImage st))
+          go : (t : Bool) → leb b (meta2Bytes s qs + 4) ≡ t → Gives (o .file) 10 (closeFound st b) ⊎ (Gives (o .file) 12 (closeFound st b) ⊎ (closeFound st b ≡ closeImage st))
           go true e = inl (early-10 (leb-true _ _ e))
           go false e = late (omega (arith, leb-false))
 

@@ -5,6 +5,7 @@ use Prim.Native.Nat.{ℕ}
 use native.Mathlib.Nat.{le-trans}
 use native.Mathlib.Omega.{arith}
 use lib.ListN.{length}
+use Rattle.format.specs.declared.head.File.the-variants.{Single}
 use Rattle.format.specs.Layout.{requested}
 use Rattle.format.specs.Container.{HasMeta2, ContainerWith, WasContainer}
 use Rattle.format.proofs.Chunks.{capacity-enough}
@@ -14,7 +15,7 @@ use Rattle.container.proofs.Refusing.{load-number}
 use Rattle.container.proofs.ReadsBack.{reads-back, refuses-back}
 
 module _ (image : List ℕ) (c : WasContainer image) where
-  abbrev was : ContainerWith requested image
+  abbrev was : ContainerWith requested Single image
   was = c .was
 
   -- a value that is at most the requested size is at most what a chunk holds
@@ -38,11 +39,11 @@ module _ (image : List ℕ) (c : WasContainer image) where
     is-container = record { says = was .says; first = was .first; second = has-meta2 };
     says-same = refl;
     loads = λ table room.
-        let zero = every image (was .says) (was .first) has-meta2 (length table) room in
+        let zero = every Single image (was .says) (was .first) has-meta2 (length table) room in
         record {
-          accepts = load-number image table ∙ zero;
-          says = says image (was .says) (was .first) has-meta2 table zero;
-          reads = reads-back image (was .says) (was .first) has-meta2 table zero;
-          refuses = refuses-back image (was .says) (was .first) has-meta2 table zero;
+          accepts = load-number Single image table ∙ zero;
+          says = says Single image (was .says) (was .first) has-meta2 table zero;
+          reads = reads-back Single image (was .says) (was .first) has-meta2 table zero;
+          refuses = refuses-back Single image (was .says) (was .first) has-meta2 table zero;
         };
   }

@@ -11,6 +11,7 @@ use lib.Seq.{getD-take, getD-drop, getD-append-add}
 use Rattle.lists.specs.Below.{greatestBelow, joinBelow}
 use Rattle.endian.specs.Signed.{signedDigits}
 use Rattle.lists.proofs.Below.{greatest-ge, greatest-cong, join-cong}
+use Rattle.endian.proofs.Signed.{within-facts}
 use Rattle.format.specs.Layout.{meta1End, dataStart, meta2Start, meta2End}
 use Rattle.format.proofs.Chunks.{meta1-before-data, chunk-after-data, chunk-before-meta2}
 use Rattle.format.proofs.Power.{blocksize-facts}
@@ -100,14 +101,15 @@ module _ (o : Opening) (image : List ℕ) (table : List ℤ) (qs : List Request)
   placed-at {task} {at} landed =
       let layout = planned-layout o (c .plan .block) in
       let (k, i, e, there, taken) = placed-in _ _ (termsOf o) layout (reachable-blank (termsOf o)) landed in
-      let back : task - 1 + 1 ≡ task = omega (arith, there .low) in
+      let (low, top) = within-facts 1 (tasks o) task (there .named) in
+      let back : task - 1 + 1 ≡ task = omega arith in
       let begun : k ≤ countAfter s qs (task - 1) =
       subst (λ (t : ℕ). k ≤ countBy (o .plan .format) (bookAfter s qs t)) (sym back)
       (omega (arith, taken .begun, count-over (o .plan .format) (bookAfter s qs task))) in
-      let most = greatest-ge (countAfter s qs) (tasks o) (task - 1) (omega (arith, there .low, there .top)) in
+      let most = greatest-ge (countAfter s qs) (tasks o) (task - 1) (omega arith) in
       let start = chunk-after-data (o .plan .blocksize) (tasks o) (entry (o .sizes)) task k in
       let end =
-      chunk-before-meta2 (o .plan .blocksize) (tasks o) (entry (o .sizes)) task k (Close.maxchunksUsed st) (there .low) (there .top) (there .one)
+      chunk-before-meta2 (o .plan .blocksize) (tasks o) (entry (o .sizes)) task k (Close.maxchunksUsed st) low top (there .one)
       (omega (arith, used-is)) in
       between-kept o st c at (omega (arith, before-data)) (omega (arith, there .fits)) ∙ claim .placed .placed-at landed
 

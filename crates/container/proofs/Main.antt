@@ -61,17 +61,17 @@ opens o image table e = sym (open-number o image table) ∙ e
 pub promises : Promises
 promises = record {
   refusals = refusals;
-  says-where = λ image table. says-where image table;
+  says-where = says-where;
   accepts-exactly =
-      λ image table. record {
-        only = λ e. only image (length table) (sym (load-number image table) ∙ e);
-        every = λ c room. load-number image table ∙ every image (c .says) (c .first) (c .second) (length table) room;
-        says = λ c e. says image (c .says) (c .first) (c .second) table (sym (load-number image table) ∙ e);
+      λ f image table. record {
+        only = λ e. only f image (length table) (sym (load-number f image table) ∙ e);
+        every = λ c room. load-number f image table ∙ every f image (c .says) (c .first) (c .second) (length table) room;
+        says = λ c e. says f image (c .says) (c .first) (c .second) table (sym (load-number f image table) ∙ e);
       };
-  reads-back = λ image table c e.
-      let zero = sym (load-number image table) ∙ e in (
-        reads-back image (c .says) (c .first) (c .second) table zero,
-        refuses-back image (c .says) (c .first) (c .second) table zero,
+  reads-back = λ f image table c e.
+      let zero = sym (load-number f image table) ∙ e in (
+        reads-back f image (c .says) (c .first) (c .second) table zero,
+        refuses-back f image (c .says) (c .first) (c .second) table zero,
       );
   stays-acceptable = stays-acceptable;
   part-there = part-there;

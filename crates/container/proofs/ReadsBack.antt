@@ -14,6 +14,7 @@ use Rattle.endian.specs.Signed.{within, natural}
 use Rattle.lists.specs.Splice.{splice}
 use Rattle.lists.proofs.Below.{sum-cong, join-cong}
 use Rattle.endian.proofs.Signed.{within-holds}
+use Rattle.format.specs.declared.head.File.{File}
 use Rattle.format.specs.Refusals.{firstFailing}
 use Rattle.format.specs.Meta2.{valueIndex, unused}
 use Rattle.format.specs.Record.{cell, rankOf, sizeOf, countOf, startOf, endAt, headSound, cellsAgree}
@@ -21,6 +22,7 @@ use Rattle.format.proofs.Refusals.{first-passes, first-fails, when-accepted}
 use Rattle.format.proofs.Rules.{values-agree}
 use Rattle.format.proofs.About.{size-bounded}
 use Rattle.format.proofs.Stripes.{length-lists, rank-made, size-made, count-made}
+use Rattle.format.proofs.Judging.{suits-holds}
 use Rattle.format.proofs.Record.{order-sound, holds-agree, startOf-agree, endAt-agree}
 use Rattle.format.specs.declared.loaded.Loaded.{Loaded}
 use Rattle.format.specs.Loaded.{loadedSound, loadedOf}
@@ -43,28 +45,28 @@ within-none : (n number : ℕ) → (number ≡ 0) ⊎ (n < number) → within 1 
 within-none n number none = ⊎-elim (λ e. rw e refl) (λ l. rw (lt-leb number n l, and-false)) none
 
 -- the record as it is made, with any table whose cells say what the container says
-module _ (image : List ℕ) (s : Contents) (one : HasMeta1 image s) (two : HasMeta2 image s) (table : List ℤ)
+module _ (f : File) (image : List ℕ) (s : Contents) (one : HasMeta1 f image s) (two : HasMeta2 image s) (table : List ℤ)
     (wide : s .n * s .maxchunks ≤ length table)
     (used-cells : (i k : ℕ) → i < s .n → k < s .count i → cell table (valueIndex (s .n) k i) ≡ pos (s .written k i))
     (unused-cells : (i k : ℕ) → i < s .n → s .count i ≤ k → k < s .maxchunks → cell table (valueIndex (s .n) k i) ≡ unused) where
   abbrev made : Loaded
-  made = loadedOf (headSaid s) (s .maxchunks) 0
+  made = loadedOf (headSaid f s) (s .maxchunks) 0
 
   abbrev loaded : Container
-  loaded = containerOf made (listsSaid s) image table
+  loaded = containerOf f made (listsSaid s) image table
 
   rank-is : (i : ℕ) → i < s .n → rankOf (listsSaid s) i ≡ s .rank i
-  rank-is i l = rank-made (s .n) (s .rank) (s .size) (s .count) (few image s one two) i l
+  rank-is i l = rank-made (s .n) (s .rank) (s .size) (s .count) (few f image s one two) i l
 
   size-is : (i : ℕ) → i < s .n → sizeOf (listsSaid s) i ≡ s .size i
-  size-is i l = size-made (s .n) (s .rank) (s .size) (s .count) (few image s one two) i l
+  size-is i l = size-made (s .n) (s .rank) (s .size) (s .count) (few f image s one two) i l
 
   count-is : (i : ℕ) → i < s .n → countOf (listsSaid s) i ≡ s .count i
-  count-is i l = count-made (s .n) (s .rank) (s .size) (s .count) (few image s one two) i l
+  count-is i l = count-made (s .n) (s .rank) (s .size) (s .count) (few f image s one two) i l
 
   -- ---- its tests pass
 
-  loaded-sound : loadedSound made (listsSaid s) ≡ true
+  loaded-sound : loadedSound f made (listsSaid s) ≡ true
   unfolding loadedSound headSound
   loaded-sound =
       rw (
@@ -74,21 +76,22 @@ module _ (image : List ℕ) (s : Contents) (one : HasMeta1 image s) (two : HasMe
         tasks-kept (one .bounds),
         ranks-kept (one .bounds) _ (λ i l. ap pos (rank-is i l)),
         sizes-kept (one .bounds) _ (λ i l. ap pos (size-is i l)),
-        maxchunks-kept image s one two,
+        maxchunks-kept f image s one two,
+        counts-kept f image s one two _ (λ i l. ap pos (count-is i l)),
       )
-      (counts-kept image s one two _ (λ i l. ap pos (count-is i l)))
+      (suits-holds f (headSaid f s) refl refl)
 
-  cells-agree : cellsAgree (headSaid s) (listsSaid s) (s .maxchunks) table ≡ true
+  cells-agree : cellsAgree (headSaid f s) (listsSaid s) (s .maxchunks) table ≡ true
   unfolding cellsAgree
   cells-agree =
-      values-agree (s .n) (s .maxchunks) _ _ _ _ _ _ (holds-agree (headSaid s) (sizeOf (listsSaid s)) (s .size) size-is) (λ i l. refl) (λ j l. refl)
-      ∙ values-kept image s one two _ _ count-is used-cells unused-cells
+      values-agree (s .n) (s .maxchunks) _ _ _ _ _ _ (holds-agree (headSaid f s) (sizeOf (listsSaid s)) (s .size) size-is) (λ i l. refl) (λ j l. refl)
+      ∙ values-kept f image s one two _ _ count-is used-cells unused-cells
 
   loaded-passes : firstFailing (loadedTests loaded) ≡ 0
   unfolding loadedTests endAt
   loaded-passes =
-      record-passes 0 (loadedSound made (listsSaid s)) (headSaid s) (listsSaid s) (s .maxchunks) image table refl loaded-sound
-      (rw (endAt-agree (headSaid s) (sizeOf (listsSaid s)) (s .size) size-is (s .maxchunks)) (two .fits)) wide cells-agree
+      record-passes 0 (loadedSound f made (listsSaid s)) (headSaid f s) (listsSaid s) (s .maxchunks) image table refl loaded-sound
+      (rw (endAt-agree (headSaid f s) (sizeOf (listsSaid s)) (s .size) size-is (s .maxchunks)) (two .fits)) wide cells-agree
 
   module _ (i : ℕ) (l : i < s .n) where
     passes : firstFailing (readTests loaded (i + 1)) ≡ 0
@@ -110,7 +113,7 @@ module _ (image : List ℕ) (s : Contents) (one : HasMeta1 image s) (two : HasMe
     bytes-are : (k : ℕ) → k < s .count i → chunkBytes loaded (i + 1) (k + 1) ≡ bytesSaid image s i k
     unfolding chunkBytes bytesSaid startOf
     bytes-are k u =
-        let start = startOf-agree (headSaid s) (sizeOf (listsSaid s)) (s .size) size-is (i + 1) (k + 1) (omega arith) in
+        let start = startOf-agree (headSaid f s) (sizeOf (listsSaid s)) (s .size) size-is (i + 1) (k + 1) (omega arith) in
         ap₂ (λ (n at : ℕ). take n (drop at image)) (written-is k u) start
 
     stream-is : streamOf loaded (i + 1) ≡ streamSaid image s i
@@ -147,7 +150,7 @@ module _ (image : List ℕ) (s : Contents) (one : HasMeta1 image s) (two : HasMe
         when-accepted _ _ _ (read-passes i l p h) ∙ ap (λ (xs : List ℕ). splice out 0 (take (length out) (drop p xs))) (stream-is i l);
     ends =
         when-accepted _ _ _ loaded-passes
-        ∙ ap (counted 0) (endAt-agree (headSaid s) (sizeOf (listsSaid s)) (s .size) size-is (s .maxchunks));
+        ∙ ap (counted 0) (endAt-agree (headSaid f s) (sizeOf (listsSaid s)) (s .size) size-is (s .maxchunks));
     sizes = λ i l. ap (λ (size : ℕ). chunkSizeAnswer size (s .blocksize)) (size-is i l) ∙ size-bounded (one .bounds) i l;
     prefixed = when-accepted _ _ _ loaded-passes;
   }
@@ -178,20 +181,20 @@ module _ (image : List ℕ) (s : Contents) (one : HasMeta1 image s) (two : HasMe
         ∙ rw (lt-ltb (totalOf loaded (i + 1)) p (rw (total-is i l) past));
   }
 
-module _ (image : List ℕ) (s : Contents) (one : HasMeta1 image s) (two : HasMeta2 image s) (table : List ℤ)
-    (e : loadRefusal image (length table) ≡ 0) where
-  said : Says s (loadAnswer image table .loaded) (loadAnswer image table .lists) table (loadTable image table)
-  said = says image s one two table e
+module _ (f : File) (image : List ℕ) (s : Contents) (one : HasMeta1 f image s) (two : HasMeta2 image s) (table : List ℤ)
+    (e : loadRefusal f image (length table) ≡ 0) where
+  said : Says f s (loadAnswer f image table .loaded) (loadAnswer f image table .lists) table (loadTable f image table)
+  said = says f image s one two table e
 
-  wide-enough : s .n * s .maxchunks ≤ length (loadTable image table)
-  wide-enough = rw (said .as-long) (table-long image s one two table e)
+  wide-enough : s .n * s .maxchunks ≤ length (loadTable f image table)
+  wide-enough = rw (said .as-long) (table-long f image s one two table e)
 
-  pub reads-back : ReadsBack image s (loadedFrom image table)
+  pub reads-back : ReadsBack image s (loadedFrom f image table)
   reads-back =
-      rw (loaded-is image s one two table e, lists-are image s one two table e)
-      (made-reads image s one two (loadTable image table) wide-enough (said .used-cells) (said .unused-cells))
+      rw (loaded-is f image s one two table e, lists-are f image s one two table e)
+      (made-reads f image s one two (loadTable f image table) wide-enough (said .used-cells) (said .unused-cells))
 
-  pub refuses-back : RefusesBack s (loadedFrom image table)
+  pub refuses-back : RefusesBack s (loadedFrom f image table)
   refuses-back =
-      rw (loaded-is image s one two table e, lists-are image s one two table e)
-      (made-refuses image s one two (loadTable image table) wide-enough (said .used-cells) (said .unused-cells))
+      rw (loaded-is f image s one two table e, lists-are f image s one two table e)
+      (made-refuses f image s one two (loadTable f image table) wide-enough (said .used-cells) (said .unused-cells))

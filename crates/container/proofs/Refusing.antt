@@ -7,6 +7,7 @@ use native.Mathlib.Omega.{arith}
 use lib.Dec.{ltb, eqb}
 use lib.IntN.{ℤ}
 use lib.ListN.{length, take, drop, replicate}
+use Rattle.format.specs.declared.head.File.{File}
 use Rattle.format.specs.declared.head.Head.{Head}
 use Rattle.format.specs.Refusals.{Test, test, firstFailing}
 use Rattle.format.specs.Judge.{tasksIn, startTests, fieldTests, fixedTests, rankTests, requestedTests, lastTests, restTests, meta1Tests, countTests, greatestTest, valueTest, valueTests, countsTests, meta2Tests}
@@ -46,15 +47,15 @@ one-of-tests numbers ts h =
 
 -- ---- loading
 
-module _ (image : List ℕ) (table : List ℤ) where
-  pub load-number : loadAnswer image table .refusal ≡ loadRefusal image (length table)
+module _ (f : File) (image : List ℕ) (table : List ℤ) where
+  pub load-number : loadAnswer f image table .refusal ≡ loadRefusal f image (length table)
   unfolding loadAnswer checkAnswer
-  load-number = number-is (loadRefusal image (length table)) _ _ (λ (a : LoadAnswer). a .refusal) refl refl
+  load-number = number-is (loadRefusal f image (length table)) _ _ (λ (a : LoadAnswer). a .refusal) refl refl
 
   abbrev Listed : List Test → Type 0
   Listed = Each (λ t. listed (0 ∷ loadNumbers) (t .number) ≡ true)
 
-  fixed-listed : Listed (fixedTests image (length image))
+  fixed-listed : Listed (fixedTests image f (length image))
   unfolding startTests fieldTests fixedTests listed
   fixed-listed = (refl, (refl, (refl, (refl, (refl, (refl, (refl, (refl, (refl, tt)))))))))
 
@@ -75,26 +76,26 @@ module _ (image : List ℕ) (table : List ℤ) where
       (each-append _ (countTests h size maxchunks at part) _ (each-join _ _ (λ i. (refl, tt)) (h .n)) (refl, tt))
       (each-join _ _ (λ k. each-join _ _ (λ i. (refl, tt)) (h .n)) maxchunks)
 
-  load-listed : OneOf (0 ∷ loadNumbers) (loadRefusal image (length table))
+  load-listed : OneOf (0 ∷ loadNumbers) (loadRefusal f image (length table))
   unfolding loadRefusal loadTests meta1Tests listed
   load-listed =
-      one-of-tests loadNumbers (loadTests image (length table))
-      (each-append _ (meta1Tests image (length image)) _ (each-append _ (fixedTests image (length image)) _ fixed-listed rest-listed)
+      one-of-tests loadNumbers (loadTests f image (length table))
+      (each-append _ (meta1Tests image f (length image)) _ (each-append _ (fixedTests image f (length image)) _ fixed-listed rest-listed)
       (refl, meta2-listed _ _ _ _ _))
 
-  pub answer-refused : 0 < loadRefusal image (length table)
-      → loadAnswer image table ≡ record { loaded = noLoaded; lists = noLists; refusal = loadRefusal image (length table); fault = loadFault image (length table) }
+  pub answer-refused : 0 < loadRefusal f image (length table)
+      → loadAnswer f image table ≡ record { loaded = noLoaded; lists = noLists; refusal = loadRefusal f image (length table); fault = loadFault f image (length table) }
   unfolding loadAnswer checkAnswer
   answer-refused r = when-refused _ _ _ r
 
-  table-kept : 0 < loadRefusal image (length table) → loadTable image table ≡ table
+  table-kept : 0 < loadRefusal f image (length table) → loadTable f image table ≡ table
   unfolding loadTable
   table-kept r = when-refused _ _ _ r
 
-  pub load-refuses : LoadRefuses image table
+  pub load-refuses : LoadRefuses f image table
   load-refuses = record {
     numbered = rw load-number load-listed;
-    moves-nothing = λ l. let r : 0 < loadRefusal image (length table) = rw load-number at l in rw (answer-refused r, table-kept r);
+    moves-nothing = λ l. let r : 0 < loadRefusal f image (length table) = rw load-number at l in rw (answer-refused r, table-kept r);
   }
 
 -- ---- the reads

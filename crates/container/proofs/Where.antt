@@ -17,11 +17,12 @@ use Rattle.lists.proofs.Splice.{part-part}
 use Rattle.endian.specs.Number.{number}
 use Rattle.endian.specs.Signed.{signed, signedAt, within, sameZ, natural}
 use Rattle.endian.proofs.Signed.{within-natural, within-holds, within-one, within-other, sameZ-eq, sameZ-refl}
+use Rattle.format.specs.declared.head.File.{File}
 use Rattle.format.specs.Limits.{maxTasks, maxBlocks, maxSize, maxRank, formatRule, blocksizeRule, tasksRule, isNew, rankRule, maxchunksRule}
 use Rattle.format.specs.Layout.{capacity, meta1End, meta2Length}
 use Rattle.format.specs.Meta1
 use Rattle.format.specs.Meta2
-use Rattle.format.specs.Record.{isBig, holds, meta2At, endAt}
+use Rattle.format.specs.Record.{filesOf, fileOf, isBig, holds, meta2At, endAt}
 use Rattle.format.specs.Kinds
 use Rattle.format.specs.Refusals.{Test, noFault, firstFailing, firstFault}
 use Rattle.format.specs.Judge.{is, magicIn, bigIn, orderedIn, tasksIn, maxchunksIn, headIn, sizeIn, meta2In, startTests, fieldTests, fixedTests, rankTests, requestedTests, lastTests, restTests, meta1Tests, countIn, countTests, greatestTest, valueTest, valueTests, countsTests, meta2Tests}
@@ -40,18 +41,18 @@ use Rattle.container.proofs.Refusing.{load-number, answer-refused}
 
 -- ---- a test judges a field; lists of both, side by side
 
-pub record Fits (image : List ℕ) (cells : ℕ) (t : Test) (f : w.Field) : Type 0 where
+pub record Fits (file : File) (image : List ℕ) (cells : ℕ) (t : Test) (f : w.Field) : Type 0 where
   pub names : t .number ∷ t .fault .field ∷ t .fault .task ∷ t .fault .chunk ∷ [] ≡ w.named f
   pub stands-at : t .fault .place ≡ w.placeOf image f
   pub says-so : t .fault .says ≡ w.saysOf image cells f
-  pub exact : Exactly (t .fails ≡ false) (w.Keeps image cells f)
+  pub exact : Exactly (t .fails ≡ false) (w.Keeps image file cells f)
 
-module _ (image : List ℕ) (cells : ℕ) where
+module _ (file : File) (image : List ℕ) (cells : ℕ) where
   abbrev Pairs : List Test → List w.Field → Type 0
   Pairs [] [] = Unit {0}
   Pairs [] (f ∷ fs) = ⊥
   Pairs (t ∷ ts) [] = ⊥
-  Pairs (t ∷ ts) (f ∷ fs) = Fits image cells t f × Pairs ts fs
+  Pairs (t ∷ ts) (f ∷ fs) = Fits file image cells t f × Pairs ts fs
 
   pairs-append : (ts us : List Test) (fs gs : List w.Field) → Pairs ts fs → Pairs us gs → Pairs (ts ++ us) (fs ++ gs)
   pairs-append [] us [] gs p q = q
@@ -74,8 +75,8 @@ module _ (image : List ℕ) (cells : ℕ) where
     names : firstFailing ts ∷ firstFault ts .field ∷ firstFault ts .task ∷ firstFault ts .chunk ∷ [] ≡ w.named field
     stands-at : firstFault ts .place ≡ w.placeOf image field
     says-so : firstFault ts .says ≡ w.saysOf image cells field
-    breaks : Not (w.Keeps image cells field)
-    kept : w.Every (w.Keeps image cells) earlier
+    breaks : Not (w.Keeps image file cells field)
+    kept : w.Every (w.Keeps image file cells) earlier
 
   find : (ts : List Test) (fs : List w.Field) → Pairs ts fs → 0 < firstFailing ts → Found ts fs
   unfolding firstFailing firstFault
@@ -111,7 +112,7 @@ module _ (image : List ℕ) (cells : ℕ) where
           }
 
   -- where all pass, every field keeps its rule
-  all-kept : (ts : List Test) (fs : List w.Field) → Pairs ts fs → Passed ts → w.Every (w.Keeps image cells) fs
+  all-kept : (ts : List Test) (fs : List w.Field) → Pairs ts fs → Passed ts → w.Every (w.Keeps image file cells) fs
   all-kept [] [] p h = tt
   all-kept [] (f ∷ fs) p h = absurd p
   all-kept (t ∷ ts) [] p h = absurd p
@@ -145,17 +146,17 @@ exactly-is v z = exactly-not (is v z) (within-one v z) (is-one v z)
 
 -- ---- META1's fields
 
-module _ (image : List ℕ) (cells : ℕ) where
+module _ (file : File) (image : List ℕ) (cells : ℕ) where
   abbrev len : ℕ
   len = length image
 
-  mark-fits : Exactly ((ltb len 4 || not (magicIn image)) ≡ false) (w.Keeps image cells w.mark)
+  mark-fits : Exactly ((ltb len 4 || not (magicIn image)) ≡ false) (w.Keeps image file cells w.mark)
   mark-fits = (
     λ e. magic-there image (ltb-false len 4 (or-left (ltb len 4) _ e)) (not-false _ (or-right (ltb len 4) _ e)),
     λ e. or-both (le-ltb len 4 (omega (arith, length-take 4 image, ap length e))) (ap not (magic-holds image e)),
   )
 
-  order-fits : Exactly ((ltb len 8 || not (orderedIn image)) ≡ false) (w.Keeps image cells w.order)
+  order-fits : Exactly ((ltb len 8 || not (orderedIn image)) ≡ false) (w.Keeps image file cells w.order)
   unfolding orderedIn bigIn
   order-fits = (
     λ e. (ltb-false len 8 (or-left (ltb len 8) _ e), one-order (is 1 (signedAt false 4 image 4)) refl (not-false _ (or-right (ltb len 8) _ e))),
@@ -172,7 +173,7 @@ module _ (image : List ℕ) (cells : ℕ) where
       in-order (inl e) = rw (is-one 1 _ e) refl
       in-order (inr e) = rw (is-one 1 _ e) (or-true (is 1 (signedAt false 4 image 4)))
 
-  format-fits : Exactly (not (formatRule (w.int image 16)) ≡ false) (w.Keeps image cells w.format)
+  format-fits : Exactly (not (formatRule (w.int image 16)) ≡ false) (w.Keeps image file cells w.format)
   format-fits = exactly-not (formatRule (w.int image 16)) to from
     where
       to : formatRule (w.int image 16) ≡ true → (w.int image 16 ≡ pos 3) ⊎ (w.int image 16 ≡ pos 4)
@@ -187,53 +188,53 @@ module _ (image : List ℕ) (cells : ℕ) where
       from (inl e) = rw e (format-kept (inl refl))
       from (inr e) = rw e (format-kept (inr refl))
 
-  blocksize-fits : Exactly (not (blocksizeRule (w.int image 20)) ≡ false) (w.Keeps image cells w.blocksize)
+  blocksize-fits : Exactly (not (blocksizeRule (w.int image 20)) ≡ false) (w.Keeps image file cells w.blocksize)
   blocksize-fits = exactly-not (blocksizeRule (w.int image 20)) to from
     where
-      to : blocksizeRule (w.int image 20) ≡ true → w.Keeps image cells w.blocksize
+      to : blocksizeRule (w.int image 20) ≡ true → w.Keeps image file cells w.blocksize
       to e =
           let z = blocksize-natural (w.int image 20) e .0 in
           let f = blocksize-facts (natural (w.int image 20)) (rw z at e) in
           let (j, power) = power-of-two (natural (w.int image 20)) (f .2) in
           (j, z ∙ ap pos power, omega (arith, power, f .0), omega (arith, power, f .1))
 
-      from : w.Keeps image cells w.blocksize → blocksizeRule (w.int image 20) ≡ true
+      from : w.Keeps image file cells w.blocksize → blocksizeRule (w.int image 20) ≡ true
       from (j, e, least, most) = rw e (blocksize-holds (2 ^ j) least most (power-within (2 ^ j) j refl most))
 
-  tasks-fits : Exactly (not (tasksRule (w.int image 24)) ≡ false) (w.Keeps image cells w.tasks)
+  tasks-fits : Exactly (not (tasksRule (w.int image 24)) ≡ false) (w.Keeps image file cells w.tasks)
   unfolding tasksRule
   tasks-fits = exactly-within 1 maxTasks (w.int image 24)
 
-  rank-fits : (i : ℕ) → Exactly (not (rankRule (λ j. w.long image (1076 + 8 * j)) i) ≡ false) (w.Keeps image cells (w.rank i))
+  rank-fits : (i : ℕ) → Exactly (not (rankRule (λ j. w.long image (1076 + 8 * j)) i) ≡ false) (w.Keeps image file cells (w.rank i))
   unfolding rankRule isNew
   rank-fits i = exactly-not (rankRule rank i) to from
     where
       rank : ℕ → ℤ
       rank j = w.long image (1076 + 8 * j)
 
-      to : rankRule rank i ≡ true → w.Keeps image cells (w.rank i)
+      to : rankRule rank i ≡ true → w.Keeps image file cells (w.rank i)
       to e = (
         from-to 0 maxRank (rank i) (and-left _ (isNew rank i) e),
         λ j l same. false≢true (sym (not-true _ (all-at (λ j. not (sameZ (rank j) (rank i))) i j l (and-right (within 0 maxRank (rank i)) _ e))) ∙ ap (λ (z : ℤ). sameZ z (rank i)) same ∙ sameZ-refl (rank i)),
       )
 
-      from : w.Keeps image cells (w.rank i) → rankRule rank i ≡ true
+      from : w.Keeps image file cells (w.rank i) → rankRule rank i ≡ true
       from (range, apart) = rw (to-within 0 maxRank (rank i) range) (all-of (λ j. not (sameZ (rank j) (rank i))) i (λ j l. other j l (sameZ (rank j) (rank i)) refl))
         where
           other : (j : ℕ) → j < i → (b : Bool) → sameZ (rank j) (rank i) ≡ b → not b ≡ true
           other j l true e = absurd (apart j l (sameZ-eq (rank j) (rank i) e))
           other j l false e = refl
 
-  closed-fits : Exactly (is 0 (w.long image (1076 + 16 * w.n image + 4)) ≡ false) (w.Keeps image cells w.closed)
+  closed-fits : Exactly (is 0 (w.long image (1076 + 16 * w.n image + 4)) ≡ false) (w.Keeps image file cells w.closed)
   closed-fits = (λ e zero. false≢true (sym e ∙ is-one 0 _ zero), within-other 0 _)
 
-  maxchunks-fits : Exactly (not (maxchunksRule (w.int image (1076 + 16 * w.n image))) ≡ false) (w.Keeps image cells w.maxchunks)
+  maxchunks-fits : Exactly (not (maxchunksRule (w.int image (1076 + 16 * w.n image))) ≡ false) (w.Keeps image file cells w.maxchunks)
   unfolding maxchunksRule
   maxchunks-fits = exactly-within 0 maxBlocks (w.int image (1076 + 16 * w.n image))
 
 -- ---- META2's fields: what its part says is what the image says behind META2's start
 
-module _ (image : List ℕ) (cells : ℕ) where
+module _ (file : File) (image : List ℕ) (cells : ℕ) where
   abbrev big : Bool
   big = isBig (headIn image)
 
@@ -299,25 +300,25 @@ module _ (image : List ℕ) (cells : ℕ) where
 
   -- ---- the tests of a load beside the list of fields
 
-  fixed-pairs : Pairs image cells (fixedTests image (length image))
+  fixed-pairs : Pairs file image cells (fixedTests image file (length image))
       (w.mark ∷ w.order ∷ w.fixedFit ∷ w.format ∷ w.blocksize ∷ w.tasks ∷ w.files ∷ w.fileNumber ∷ w.meta1Fit ∷ [])
   unfolding fixedTests startTests fieldTests tasksIn meta1End
   fixed-pairs = (
-    record { names = refl; stands-at = refl; says-so = refl; exact = mark-fits image cells },
+    record { names = refl; stands-at = refl; says-so = refl; exact = mark-fits file image cells },
     (
-      record { names = refl; stands-at = refl; says-so = refl; exact = order-fits image cells },
+      record { names = refl; stands-at = refl; says-so = refl; exact = order-fits file image cells },
       (
         record { names = refl; stands-at = refl; says-so = refl; exact = exactly-long 1076 (length image) },
         (
-          record { names = refl; stands-at = refl; says-so = refl; exact = format-fits image cells },
+          record { names = refl; stands-at = refl; says-so = refl; exact = format-fits file image cells },
           (
-            record { names = refl; stands-at = refl; says-so = refl; exact = blocksize-fits image cells },
+            record { names = refl; stands-at = refl; says-so = refl; exact = blocksize-fits file image cells },
             (
-              record { names = refl; stands-at = refl; says-so = refl; exact = tasks-fits image cells },
+              record { names = refl; stands-at = refl; says-so = refl; exact = tasks-fits file image cells },
               (
-                record { names = refl; stands-at = refl; says-so = refl; exact = exactly-is 1 (w.int image 28) },
+                record { names = refl; stands-at = refl; says-so = refl; exact = exactly-is (filesOf file) (w.int image 28) },
                 (
-                  record { names = refl; stands-at = refl; says-so = refl; exact = exactly-is 0 (w.int image 32) },
+                  record { names = refl; stands-at = refl; says-so = refl; exact = exactly-is (fileOf file) (w.int image 32) },
                   (record { names = refl; stands-at = refl; says-so = refl; exact = exactly-long (1088 + 16 * w.n image) (length image) }, tt),
                 ),
               ),
@@ -328,24 +329,24 @@ module _ (image : List ℕ) (cells : ℕ) where
     ),
   )
 
-  rank-pairs : Pairs image cells (rankTests image) (listBelow (w.n image) w.rank)
+  rank-pairs : Pairs file image cells (rankTests image) (listBelow (w.n image) w.rank)
   unfolding rankTests tasksIn
   rank-pairs =
-      pairs-join image cells _ (λ i. w.rank i ∷ []) (w.n image)
-      (λ i l. (record { names = refl; stands-at = refl; says-so = refl; exact = rank-fits image cells i }, tt))
+      pairs-join file image cells _ (λ i. w.rank i ∷ []) (w.n image)
+      (λ i l. (record { names = refl; stands-at = refl; says-so = refl; exact = rank-fits file image cells i }, tt))
 
-  size-pairs : Pairs image cells (requestedTests image) (listBelow (w.n image) w.size)
+  size-pairs : Pairs file image cells (requestedTests image) (listBelow (w.n image) w.size)
   unfolding requestedTests tasksIn
   size-pairs =
-      pairs-join image cells _ (λ i. w.size i ∷ []) (w.n image)
+      pairs-join file image cells _ (λ i. w.size i ∷ []) (w.n image)
       (λ i l. (record { names = refl; stands-at = refl; says-so = refl; exact = exactly-within 1 maxSize (w.long image (1076 + 8 * w.n image + 8 * i)) }, tt))
 
-  last-pairs : Pairs image cells (lastTests image (length image)) (w.closed ∷ w.maxchunks ∷ w.start ∷ w.meta2Fit ∷ [])
+  last-pairs : Pairs file image cells (lastTests image (length image)) (w.closed ∷ w.maxchunks ∷ w.start ∷ w.meta2Fit ∷ [])
   unfolding lastTests tasksIn maxchunksIn headIn sizeIn meta2In meta2At endAt
   last-pairs = (
-    record { names = refl; stands-at = refl; says-so = refl; exact = closed-fits image cells },
+    record { names = refl; stands-at = refl; says-so = refl; exact = closed-fits file image cells },
     (
-      record { names = refl; stands-at = refl; says-so = refl; exact = maxchunks-fits image cells },
+      record { names = refl; stands-at = refl; says-so = refl; exact = maxchunks-fits file image cells },
       (
         record { names = refl; stands-at = refl; says-so = refl; exact = exactly-is (w.meta2 image) (w.long image (1076 + 16 * w.n image + 4)) },
         (record { names = refl; stands-at = refl; says-so = refl; exact = exactly-long (w.end image) (length image) }, tt),
@@ -353,17 +354,17 @@ module _ (image : List ℕ) (cells : ℕ) where
     ),
   )
 
-  count-pairs : Pairs image cells (countTests (headIn image) (sizeIn image) (maxchunksIn image) (meta2In image) (meta2Bytes image))
+  count-pairs : Pairs file image cells (countTests (headIn image) (sizeIn image) (maxchunksIn image) (meta2In image) (meta2Bytes image))
       (listBelow (w.n image) w.count)
   unfolding countTests headIn tasksIn sizeIn maxchunksIn meta2In meta2At
   count-pairs =
-      pairs-join image cells _ (λ i. w.count i ∷ []) (w.n image)
+      pairs-join file image cells _ (λ i. w.count i ∷ []) (w.n image)
       (λ i l. (
         record { names = refl; stands-at = refl; says-so = count-read i l; exact = rw (count-read i l) (count-exact (w.long image (w.meta2 image + 8 * i))) },
         tt,
       ))
 
-  greatest-fits : Fits image cells (greatestTest (headIn image) (sizeIn image) (maxchunksIn image) (meta2In image) (meta2Bytes image)) w.greatest
+  greatest-fits : Fits file image cells (greatestTest (headIn image) (sizeIn image) (maxchunksIn image) (meta2In image) (meta2Bytes image)) w.greatest
   unfolding greatestTest countIn headIn tasksIn sizeIn maxchunksIn meta2In meta2At
   greatest-fits =
       let counts : ℕ → ℕ = λ i. natural (Meta2.countField big (meta2Bytes image) i) in
@@ -376,13 +377,13 @@ module _ (image : List ℕ) (cells : ℕ) where
             exactly-not (eqb (greatestBelow (w.n image) counts) (w.most image)) (λ e. sym same ∙ eqb-true _ _ e) (λ keeps. eq-eqb _ _ (same ∙ keeps));
       }
 
-  value-pairs : Pairs image cells (valueTests (headIn image) (sizeIn image) (maxchunksIn image) (meta2In image) (meta2Bytes image))
+  value-pairs : Pairs file image cells (valueTests (headIn image) (sizeIn image) (maxchunksIn image) (meta2In image) (meta2Bytes image))
       (joinBelow (w.most image) (λ k. listBelow (w.n image) (w.value k)))
   unfolding valueTests valueTest countIn holds headIn tasksIn sizeIn maxchunksIn meta2In meta2At
   value-pairs =
-      pairs-join image cells _ (λ k. listBelow (w.n image) (w.value k)) (w.most image)
+      pairs-join file image cells _ (λ k. listBelow (w.n image) (w.value k)) (w.most image)
       (λ k h.
-      pairs-join image cells _ (λ i. w.value k i ∷ []) (w.n image)
+      pairs-join file image cells _ (λ i. w.value k i ∷ []) (w.n image)
       (λ i l. (
         record {
           names = refl;
@@ -396,38 +397,38 @@ module _ (image : List ℕ) (cells : ℕ) where
         tt,
       )))
 
-  pairs : Pairs image cells (loadTests image cells) (w.judged image)
+  pairs : Pairs file image cells (loadTests file image cells) (w.judged image)
   unfolding loadTests meta1Tests restTests countsTests meta2Tests tasksIn maxchunksIn
   pairs =
-      pairs-append image cells (meta1Tests image (length image)) _ _ _
-      (pairs-append image cells (fixedTests image (length image)) _ _ _ fixed-pairs
-      (pairs-append image cells (rankTests image) _ _ _ rank-pairs (pairs-append image cells (requestedTests image) _ _ _ size-pairs last-pairs))) (
+      pairs-append file image cells (meta1Tests image file (length image)) _ _ _
+      (pairs-append file image cells (fixedTests image file (length image)) _ _ _ fixed-pairs
+      (pairs-append file image cells (rankTests image) _ _ _ rank-pairs (pairs-append file image cells (requestedTests image) _ _ _ size-pairs last-pairs))) (
         record { names = refl; stands-at = refl; says-so = refl; exact = exactly-long (w.n image * w.most image) cells },
-        pairs-append image cells (countsTests (headIn image) (sizeIn image) (maxchunksIn image) (meta2In image) (meta2Bytes image)) _ _ _
-            (pairs-append image cells (countTests (headIn image) (sizeIn image) (maxchunksIn image) (meta2In image) (meta2Bytes image)) _ _ _ count-pairs
+        pairs-append file image cells (countsTests (headIn image) (sizeIn image) (maxchunksIn image) (meta2In image) (meta2Bytes image)) _ _ _
+            (pairs-append file image cells (countTests (headIn image) (sizeIn image) (maxchunksIn image) (meta2In image) (meta2Bytes image)) _ _ _ count-pairs
             (greatest-fits, tt))
             value-pairs,
       )
 
-  load-numbered : Numbered (loadTests image cells)
+  load-numbered : Numbered (loadTests file image cells)
   unfolding loadTests
   load-numbered =
-      each-append _ (meta1Tests image (length image)) _ (meta1-numbered image (length image))
+      each-append _ (meta1Tests image file (length image)) _ (meta1-numbered image file (length image))
       (omega arith, meta2-numbered (headIn image) (sizeIn image) (maxchunksIn image) (meta2Bytes image) (meta2In image))
 
-module _ (image : List ℕ) (table : List ℤ) where
-  nothing-broken : loadRefusal image (length table) ≡ 0 → loadAnswer image table .fault ≡ noFault
+module _ (file : File) (image : List ℕ) (table : List ℤ) where
+  nothing-broken : loadRefusal file image (length table) ≡ 0 → loadAnswer file image table .fault ≡ noFault
   unfolding loadAnswer checkAnswer
-  nothing-broken none = ap (λ (a : LoadAnswer). a .fault) (when-accepted (loadRefusal image (length table)) _ _ none)
+  nothing-broken none = ap (λ (a : LoadAnswer). a .fault) (when-accepted (loadRefusal file image (length table)) _ _ none)
 
-  pub says-where : w.SaysWhere image table
+  pub says-where : w.SaysWhere file image table
   unfolding loadRefusal loadFault
   says-where = record {
     refused = λ l.
         let cells = length table in
-        let some : 0 < loadRefusal image cells = rw (load-number image table) at l in
-        let f = find image cells (loadTests image cells) (w.judged image) (pairs image cells) some in
-        rw (answer-refused image table some) (record {
+        let some : 0 < loadRefusal file image cells = rw (load-number file image table) at l in
+        let f = find file image cells (loadTests file image cells) (w.judged image) (pairs file image cells) some in
+        rw (answer-refused file image table some) (record {
           field = f .field;
           earlier = f .earlier;
           later = f .later;
@@ -440,9 +441,9 @@ module _ (image : List ℕ) (table : List ℤ) where
         });
     accepted = λ e.
         let cells = length table in
-        let none : loadRefusal image cells ≡ 0 = sym (load-number image table) ∙ e in (
+        let none : loadRefusal file image cells ≡ 0 = sym (load-number file image table) ∙ e in (
           nothing-broken none,
-          all-kept image cells (loadTests image cells) (w.judged image) (pairs image cells)
-              (none-fails (loadTests image cells) (load-numbered image cells) none),
+          all-kept file image cells (loadTests file image cells) (w.judged image) (pairs file image cells)
+              (none-fails (loadTests file image cells) (load-numbered file image cells) none),
         );
   }

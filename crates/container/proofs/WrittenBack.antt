@@ -146,22 +146,22 @@ module _ (s : Start) (is : IsStart s) (front : HasFront s) (qs : List Request) w
     contents = contentsOf o st
 
     abbrev loaded : Container
-    loaded = loadedFrom whole cells
+    loaded = loadedFrom (o .file) whole cells
 
-    one : HasMeta1 whole contents
+    one : HasMeta1 (o .file) whole contents
     one = has-meta1 o st closable tail fit
 
     two : HasMeta2 whole contents
     two = has-meta2 o st closable tail
 
-    loads : loadRefusal whole (length cells) ≡ 0
-    loads = every whole contents one two (length cells) room
+    loads : loadRefusal (o .file) whole (length cells) ≡ 0
+    loads = every (o .file) whole contents one two (length cells) room
 
-    said : Says contents (loadAnswer whole cells .loaded) (loadAnswer whole cells .lists) cells (loadTable whole cells)
-    said = says whole contents one two cells loads
+    said : Says (o .file) contents (loadAnswer (o .file) whole cells .loaded) (loadAnswer (o .file) whole cells .lists) cells (loadTable (o .file) whole cells)
+    said = says (o .file) whole contents one two cells loads
 
     back : ReadsBack whole contents loaded
-    back = reads-back whole contents one two cells loads
+    back = reads-back (o .file) whole contents one two cells loads
 
     stream-said : (i : ℕ) → i < tasks o → streamSaid whole contents i ≡ bytes i
     unfolding streamSaid streamIn
@@ -200,7 +200,7 @@ module _ (s : Start) (is : IsStart s) (front : HasFront s) (qs : List Request) w
 
     loads-again : LoadsAgain o st bytes whole cells
     loads-again = record {
-      accepts = load-number whole cells ∙ loads;
+      accepts = load-number (o .file) whole cells ∙ loads;
       recorded = said .recorded;
       gives-back = gives-back;
       ends = back .ends ∙ ap (counted 0) (sym (length-said o st closable));

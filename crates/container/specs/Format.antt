@@ -8,10 +8,11 @@ use lib.IntN.{ℤ, pos}
 use lib.ListN.{length, getD, take, drop, replicate}
 use Rattle.lists.specs.Below.{sumBelow, joinBelow}
 use Rattle.lists.specs.Splice.{splice}
+use Rattle.format.specs.declared.head.File.{File}
 use Rattle.format.specs.Layout.{meta1End, dataStart, capacity, chunkStart, meta2End}
 use Rattle.format.specs.Meta1.{prefixAt, prefixLength, lastAt, lastFields, meta1}
 use Rattle.format.specs.Meta2.{unused, leastCount, meta2}
-use Rattle.format.specs.Record.{entry, cell, sizeOf, countOf, isBig, meta2At, endAt}
+use Rattle.format.specs.Record.{entry, cell, filesOf, fileOf, sizeOf, countOf, isBig, meta2At, endAt}
 use Rattle.format.specs.declared.session.Session.{Session}
 use Rattle.format.specs.Session.{State, asClosed}
 use Rattle.format.specs.Open.{Opening, tasks, needsAnswer, openAnswer, openImage, openTable}
@@ -24,12 +25,13 @@ use Rattle.format.specs.About.{chunkSizeAnswer, beforeZero, lengthAnswer, prefi
 use Rattle.format.specs.Tally.{termsOf}
 use Rattle.lists.specs.Logic.{Exactly}
 
--- accepted exactly when the image is a container and the table has a cell for each of its values: both directions, and what is handed back
-pub record AcceptsExactly (image : List ℕ) (table : List ℤ) : Type 0 where
-  pub only : loadAnswer image table .refusal ≡ 0 → (c : IsContainer image) × (c .says .n * c .says .maxchunks ≤ length table)
-  pub every : (c : IsContainer image) → c .says .n * c .says .maxchunks ≤ length table → loadAnswer image table .refusal ≡ 0
-  pub says : (c : IsContainer image) → loadAnswer image table .refusal ≡ 0
-      → Says (c .says) (loadAnswer image table .loaded) (loadAnswer image table .lists) table (loadTable image table)
+-- accepted exactly when the image is a container, as the file that the call means, and the table has a cell for each of its values: both directions,
+-- and what is handed back
+pub record AcceptsExactly (f : File) (image : List ℕ) (table : List ℤ) : Type 0 where
+  pub only : loadAnswer f image table .refusal ≡ 0 → (c : IsContainer f image) × (c .says .n * c .says .maxchunks ≤ length table)
+  pub every : (c : IsContainer f image) → c .says .n * c .says .maxchunks ≤ length table → loadAnswer f image table .refusal ≡ 0
+  pub says : (c : IsContainer f image) → loadAnswer f image table .refusal ≡ 0
+      → Says f (c .says) (loadAnswer f image table .loaded) (loadAnswer f image table .lists) table (loadTable f image table)
 
 -- a part's place in the image: the bytes there are the part, whatever record, image and table came in
 abbrev pub PartThere : Container → ℕ → ℕ → Type 0
@@ -89,6 +91,7 @@ pub record OpensExactly (o : Opening) (image : List ℕ) (table : List ℤ) : Ty
 -- the record of an opening says what the opening was given; each task has the least count, 0 or in version 4 1; and it is not marked closed
 pub record Begun (o : Opening) (s : Session) (lists : List ℕ) : Type 0 where
   pub head : HeadSays (s .head) (o .plan .order) (o .plan .version) (o .plan .patch) (o .plan .format) (o .plan .blocksize) (tasks o)
+      (filesOf (o .file)) (fileOf (o .file))
   pub planned : s .planned ≡ o .plan .planned
   pub not-closed : s .closed ≡ 0
   pub listed : Lists (tasks o) (entry (o .ranks)) (entry (o .sizes)) (λ i. leastCount (o .plan .format)) lists

@@ -1,8 +1,10 @@
--- All that is promised, over every image, table, record, opening and list of requests: one field for each promise.
+-- All that is promised, over every image, table, record, opening and list of requests: one field for each promise. What is said of an image, of a
+-- session and of an opening is said of whichever file a call means (W-204): the entries of this crate mean a single file.
 use mathlib.Core.Path.{_≡_}
 use mathlib.Core.List.{List}
 use Prim.Native.Nat.{ℕ, _-_}
 use lib.IntN.{ℤ}
+use Rattle.format.specs.declared.head.File.{File}
 use Rattle.format.specs.Session.{State}
 use Rattle.format.specs.Open.{Opening}
 use Rattle.format.specs.Write.{Request, refusals}
@@ -24,11 +26,11 @@ pub record Promises : Type 0 where
   -- demand 1: any bytes and any request
   pub refusals : Refusals
   -- where a load broke off (W-205)
-  pub says-where : (image : List ℕ) → (table : List ℤ) → SaysWhere image table
+  pub says-where : (f : File) → (image : List ℕ) → (table : List ℤ) → SaysWhere f image table
   -- demand 2: exactly the format
-  pub accepts-exactly : (image : List ℕ) → (table : List ℤ) → AcceptsExactly image table
-  pub reads-back : (image : List ℕ) → (table : List ℤ) → (c : IsContainer image) → loadAnswer image table .refusal ≡ 0
-      → ReadsBack image (c .says) (loadedFrom image table) × RefusesBack (c .says) (loadedFrom image table)
+  pub accepts-exactly : (f : File) → (image : List ℕ) → (table : List ℤ) → AcceptsExactly f image table
+  pub reads-back : (f : File) → (image : List ℕ) → (table : List ℤ) → (c : IsContainer f image) → loadAnswer f image table .refusal ≡ 0
+      → ReadsBack image (c .says) (loadedFrom f image table) × RefusesBack (c .says) (loadedFrom f image table)
   pub stays-acceptable : (image : List ℕ) → (was : WasContainer image) → StaysAcceptable image was
   pub part-there : (c : Container) → (task chunk : ℕ) → PartThere c task chunk
   pub opens-exactly : (o : Opening) → (image : List ℕ) → (table : List ℤ) → OpensExactly o image table

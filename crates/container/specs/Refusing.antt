@@ -6,6 +6,7 @@ use mathlib.Core.Logic.{_⊎_}
 use Prim.Native.Nat.{ℕ, _≤_, _<_}
 use lib.IntN.{ℤ}
 use lib.ListN.{length, replicate}
+use Rattle.format.specs.declared.head.File.{File}
 use Rattle.format.specs.Record.{noLists}
 use Rattle.format.specs.declared.session.Session.{Session}
 use Rattle.format.specs.Session.{State, stateOf, noSession}
@@ -58,10 +59,10 @@ recordNumbers = 17 ∷ 18 ∷ 19 ∷ []
 
 -- ---- each entry: a record of zeros marked closed, lengths and counts of 0, an empty part, and all lent memory as it came
 
-abbrev pub LoadRefuses : List ℕ → List ℤ → Type 0
-LoadRefuses image table =
-    let a = loadAnswer image table in
-    Refuses {A = Loaded × List ℕ × List ℤ} loadNumbers (a .refusal) (a .loaded, a .lists, loadTable image table) (noLoaded, noLists, table)
+abbrev pub LoadRefuses : File → List ℕ → List ℤ → Type 0
+LoadRefuses f image table =
+    let a = loadAnswer f image table in
+    Refuses {A = Loaded × List ℕ × List ℤ} loadNumbers (a .refusal) (a .loaded, a .lists, loadTable f image table) (noLoaded, noLists, table)
 
 abbrev pub ChunkRefuses : Container → ℕ → ℕ → Type 0
 ChunkRefuses c task chunk = Refuses chunkNumbers (chunkRefusal c task chunk) (chunkPart c task chunk) []
@@ -120,10 +121,10 @@ pub record Ended (st : State) : Type 0 where
 
 -- a session as a close leaves it
 abbrev pub afterClose : State → State
-afterClose st = stateOf (closeAnswer st .session) (st .lists) (closeImage st) (st .table)
+afterClose st = stateOf (st .file) (closeAnswer st .session) (st .lists) (closeImage st) (st .table)
 
 pub record Refusals : Type 0 where
-  pub load-refuses : (image : List ℕ) → (table : List ℤ) → LoadRefuses image table
+  pub load-refuses : (f : File) → (image : List ℕ) → (table : List ℤ) → LoadRefuses f image table
   pub chunk-refuses : (c : Container) → (task chunk : ℕ) → ChunkRefuses c task chunk
   pub part-refuses : (c : Container) → (task chunk : ℕ) → PartRefuses c task chunk
   pub total-refuses : (c : Container) → (task : ℕ) → TotalRefuses c task

@@ -12,6 +12,7 @@ use Rattle.container.specs.Start.{Start, after, answersTo, Puts}
 abbrev pub inFormat : ℕ → Opening → Opening
 inFormat format o =
     record {
+      file = o .file;
       plan =
           record {
             order = o .plan .order;

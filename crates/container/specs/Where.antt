@@ -13,7 +13,9 @@ use Rattle.lists.specs.Logic.{Not}
 use Rattle.endian.specs.Signed.{signedAt, natural}
 use Rattle.format.specs.Limits.{maxTasks}
 use Rattle.format.specs.Layout
+use Rattle.format.specs.declared.head.File.{File}
 use Rattle.format.specs.declared.fault.Fault.{Fault}
+use Rattle.format.specs.Record.{filesOf, fileOf}
 use Rattle.format.specs.Judge.{bigIn}
 use Rattle.format.specs.Refusals.{noFault}
 use Rattle.format.specs.Load.{loadAnswer}
@@ -128,28 +130,28 @@ module _ (image : List ℕ) where
       ++ (listBelow n rank ++ (listBelow n size ++ (closed ∷ maxchunks ∷ start ∷ meta2Fit ∷ []))))
       ++ (table ∷ ((listBelow n count ++ (greatest ∷ [])) ++ joinBelow most (λ k. listBelow n (value k))))
 
-  -- the rule of each: what the number at its place has to be, for a table of so many cells
-  abbrev pub Keeps : ℕ → Field → Type 0
-  Keeps cells mark = take 4 image ≡ 115 ∷ 105 ∷ 111 ∷ 110 ∷ []
-  Keeps cells order = (8 ≤ length image) × ((signedAt false 4 image 4 ≡ pos 1) ⊎ (signedAt true 4 image 4 ≡ pos 1))
-  Keeps cells fixedFit = 1076 ≤ length image
-  Keeps cells format = (int 16 ≡ pos 3) ⊎ (int 16 ≡ pos 4)
-  Keeps cells blocksize = (j : ℕ) × (int 20 ≡ pos (2 ^ j)) × (512 ≤ 2 ^ j) × (2 ^ j ≤ 4_194_304)
-  Keeps cells tasks = FromTo 1 maxTasks (int 24)
-  Keeps cells files = int 28 ≡ pos 1
-  Keeps cells fileNumber = int 32 ≡ pos 0
-  Keeps cells meta1Fit = 1088 + 16 * n ≤ length image
-  Keeps cells (rank i) =
+  -- the rule of each: what the number at its place has to be, for a table of so many cells and as the file that the call means
+  abbrev pub Keeps : File → ℕ → Field → Type 0
+  Keeps file cells mark = take 4 image ≡ 115 ∷ 105 ∷ 111 ∷ 110 ∷ []
+  Keeps file cells order = (8 ≤ length image) × ((signedAt false 4 image 4 ≡ pos 1) ⊎ (signedAt true 4 image 4 ≡ pos 1))
+  Keeps file cells fixedFit = 1076 ≤ length image
+  Keeps file cells format = (int 16 ≡ pos 3) ⊎ (int 16 ≡ pos 4)
+  Keeps file cells blocksize = (j : ℕ) × (int 20 ≡ pos (2 ^ j)) × (512 ≤ 2 ^ j) × (2 ^ j ≤ 4_194_304)
+  Keeps file cells tasks = FromTo 1 maxTasks (int 24)
+  Keeps file cells files = int 28 ≡ pos (filesOf file)
+  Keeps file cells fileNumber = int 32 ≡ pos (fileOf file)
+  Keeps file cells meta1Fit = 1088 + 16 * n ≤ length image
+  Keeps file cells (rank i) =
       FromTo 0 2_147_483_647 (long (1076 + 8 * i)) × ((j : ℕ) → j < i → Not (long (1076 + 8 * j) ≡ long (1076 + 8 * i)))
-  Keeps cells (size i) = FromTo 1 1_073_741_824 (long (1076 + 8 * n + 8 * i))
-  Keeps cells closed = Not (long (1076 + 16 * n + 4) ≡ pos 0)
-  Keeps cells maxchunks = FromTo 0 32 (int (1076 + 16 * n))
-  Keeps cells start = long (1076 + 16 * n + 4) ≡ pos meta2
-  Keeps cells meta2Fit = end ≤ length image
-  Keeps cells table = n * most ≤ cells
-  Keeps cells (count i) = FromTo 0 most (long (meta2 + 8 * i)) × (int 16 ≡ pos 4 → Not (long (meta2 + 8 * i) ≡ pos 0))
-  Keeps cells greatest = greatestBelow n (λ i. natural (long (meta2 + 8 * i))) ≡ most
-  Keeps cells (value k i) =
+  Keeps file cells (size i) = FromTo 1 1_073_741_824 (long (1076 + 8 * n + 8 * i))
+  Keeps file cells closed = Not (long (1076 + 16 * n + 4) ≡ pos 0)
+  Keeps file cells maxchunks = FromTo 0 32 (int (1076 + 16 * n))
+  Keeps file cells start = long (1076 + 16 * n + 4) ≡ pos meta2
+  Keeps file cells meta2Fit = end ≤ length image
+  Keeps file cells table = n * most ≤ cells
+  Keeps file cells (count i) = FromTo 0 most (long (meta2 + 8 * i)) × (int 16 ≡ pos 4 → Not (long (meta2 + 8 * i) ≡ pos 0))
+  Keeps file cells greatest = greatestBelow n (λ i. natural (long (meta2 + 8 * i))) ≡ most
+  Keeps file cells (value k i) =
       let used = natural (long (meta2 + 8 * i)) in
       let says = long (meta2 + 8 * n + 8 * (k * n + i)) in
       (k < used → FromTo 0 (Layout.capacity (natural (int 20)) (sizeIn i)) says) × (used ≤ k → says ≡ negsuc 0)
@@ -160,7 +162,7 @@ Every P [] = Unit {0}
 Every P (f ∷ fs) = P f × Every P fs
 
 -- a refusal with what it names: one of the fields, which breaks its rule, and every field that is judged earlier keeps its own
-pub record Broken (image : List ℕ) (cells refusal : ℕ) (fault : Fault) : Type 0 where
+pub record Broken (f : File) (image : List ℕ) (cells refusal : ℕ) (fault : Fault) : Type 0 where
   pub field : Field
   pub earlier : List Field
   pub later : List Field
@@ -168,11 +170,11 @@ pub record Broken (image : List ℕ) (cells refusal : ℕ) (fault : Fault) : Typ
   pub names : refusal ∷ fault .field ∷ fault .task ∷ fault .chunk ∷ [] ≡ named field
   pub stands-at : fault .place ≡ placeOf image field
   pub says-so : fault .says ≡ saysOf image cells field
-  pub breaks : Not (Keeps image cells field)
-  pub kept : Every (Keeps image cells) earlier
+  pub breaks : Not (Keeps image f cells field)
+  pub kept : Every (Keeps image f cells) earlier
 
 -- "Each load refusal .. shall also give the first offending field's offset": accepted, all fields keep their rules, and nothing is named
-pub record SaysWhere (image : List ℕ) (table : List ℤ) : Type 0 where
-  pub refused : 0 < loadAnswer image table .refusal → Broken image (length table) (loadAnswer image table .refusal) (loadAnswer image table .fault)
-  pub accepted : loadAnswer image table .refusal ≡ 0
-      → (loadAnswer image table .fault ≡ noFault) × Every (Keeps image (length table)) (judged image)
+pub record SaysWhere (f : File) (image : List ℕ) (table : List ℤ) : Type 0 where
+  pub refused : 0 < loadAnswer f image table .refusal → Broken f image (length table) (loadAnswer f image table .refusal) (loadAnswer f image table .fault)
+  pub accepted : loadAnswer f image table .refusal ≡ 0
+      → (loadAnswer f image table .fault ≡ noFault) × Every (Keeps image f (length table)) (judged image)

@@ -54,11 +54,11 @@ pub record GivesBack (c : Container) (n : ℕ) (bytes : ℕ → List ℕ) : Type
 -- same fields; each task gives back the bytes accepted from it, in order; the container is as long as closing said, and its prefix is the one that
 -- the opening was given, up to a zero in it
 pub record LoadsAgain (o : Opening) (st : State) (bytes : ℕ → List ℕ) (image : List ℕ) (table : List ℤ) : Type 0 where
-  pub accepts : loadAnswer image table .refusal ≡ 0
-  pub recorded : Recorded (contentsOf o st) (loadAnswer image table .loaded) (loadAnswer image table .lists)
-  pub gives-back : GivesBack (loadedFrom image table) (tasks o) bytes
-  pub ends : lengthAnswer (loadedFrom image table) ≡ record { refusal = 0; bytes = closeAnswer st .length }
-  pub prefixed : prefixAnswer (loadedFrom image table) ≡ record { refusal = 0; start = prefixAt; length = beforeZero (o .prefix) }
+  pub accepts : loadAnswer (o .file) image table .refusal ≡ 0
+  pub recorded : Recorded (o .file) (contentsOf o st) (loadAnswer (o .file) image table .loaded) (loadAnswer (o .file) image table .lists)
+  pub gives-back : GivesBack (loadedFrom (o .file) image table) (tasks o) bytes
+  pub ends : lengthAnswer (loadedFrom (o .file) image table) ≡ record { refusal = 0; bytes = closeAnswer st .length }
+  pub prefixed : prefixAnswer (loadedFrom (o .file) image table) ≡ record { refusal = 0; start = prefixAt; length = beforeZero (o .prefix) }
   pub prefix-bytes : take (beforeZero (o .prefix)) (drop prefixAt image) ≡ take (beforeZero (o .prefix)) (o .prefix)
 
 -- a start and any list of writes: the session closes, and loaded again each task gives the bytes already there, then those accepted from it

@@ -19,7 +19,7 @@ use Rattle.format.proofs.Power.{blocksize-facts}
 use Rattle.format.proofs.Stored.{length-padded}
 use Rattle.format.specs.declared.head.Head.{Head}
 use Rattle.format.specs.Record.{isBig}
-use Rattle.format.specs.Meta1.{magic, orderNumber, fileCount, fileNumber, prefixLength, fixedLength, lastAt, padded, lastFields, meta1Front, meta1, openingBytes}
+use Rattle.format.specs.Meta1.{magic, orderNumber, prefixLength, fixedLength, lastAt, padded, lastFields, meta1Front, meta1, openingBytes}
 use Rattle.emit.specs.Parts.{versions, shape, firstFields}
 
 -- ---- lengths
@@ -28,13 +28,13 @@ pub length-versions : (big : Bool) (version patch : ℤ) (format : ℕ) → leng
 unfolding versions
 length-versions big version patch format = simp (length-append, length-digits)
 
-pub length-shape : (big : Bool) (blocksize n : ℕ) → length (shape big blocksize n) ≡ 32
+pub length-shape : (big : Bool) (blocksize n files file : ℕ) → length (shape big blocksize n files file) ≡ 32
 unfolding shape
-length-shape big blocksize n = simp (length-append, length-digits)
+length-shape big blocksize n files file = simp (length-append, length-digits)
 
 pub length-first : (big : Bool) (h : Head) → length (firstFields big h) ≡ 52
 length-first big h =
-    rw length-append (omega (arith, length-versions big (h .version) (h .patch) (h .format), length-shape big (h .blocksize) (h .n)))
+    rw length-append (omega (arith, length-versions big (h .version) (h .patch) (h .format), length-shape big (h .blocksize) (h .n) (h .files) (h .file)))
 
 length-fixed : (big : Bool) (h : Head) (prefix : List ℕ) → length prefix ≤ prefixLength
     → length (drop 1 (firstFields big h) ++ padded prefix) ≡ 1075
@@ -81,7 +81,7 @@ module _ (h : Head) (rank size : ℕ → ℕ) (prefix : List ℕ) where
       let four = signedDigits (isBig h) 4 in
       let zero = signedDigits (isBig h) 8 (pos 0) in
       regroup (drop 1 magic) (four (pos orderNumber)) (four (h .version)) (four (h .patch)) (four (pos (h .format))) (four (pos (h .blocksize)))
-      (four (pos (h .n))) (four (pos fileCount)) (four (pos fileNumber)) zero zero (replicate 16 0) (padded prefix)
+      (four (pos (h .n))) (four (pos (h .files))) (four (pos (h .file))) zero zero (replicate 16 0) (padded prefix)
       (joinBelow (h .n) (λ i. signedDigits (isBig h) 8 (pos (rank i)))) (joinBelow (h .n) (λ i. signedDigits (isBig h) 8 (pos (size i))))
       (flags-zero (isBig h))
 

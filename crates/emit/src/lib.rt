@@ -74,15 +74,15 @@ fn put_versions(fields: &mut [u8], big: bool, version: i32, patch: i32, format: 
     numbers::put_u32(fields, field::FORMAT_AT, big, format);
 }
 
-// The blocksize, the tasks, the one file and two flags of zeros, from 20 on.
-fn put_shape(fields: &mut [u8], big: bool, blocksize: u32, n: u32)
+// The blocksize, the tasks, nfiles, filenumber and two flags of zeros, from 20 on.
+fn put_shape(fields: &mut [u8], big: bool, blocksize: u32, n: u32, files: u32, file: u32)
     requires { ⌜ 52 ≤ length (now fields) ⌝ }
-    ensures { λ _. ⌜ now (fields .exit) ≡ splice (now (fields .entry)) 20 (shape big blocksize n) ⌝ }
+    ensures { λ _. ⌜ now (fields .exit) ≡ splice (now (fields .entry)) 20 (shape big blocksize n files file) ⌝ }
 {
     numbers::put_u32(fields, field::BLOCKSIZE_AT, big, blocksize);
     numbers::put_u32(fields, field::TASKS_AT, big, n);
-    numbers::put_u32(fields, field::FILES_AT, big, field::FILES);
-    numbers::put_u32(fields, field::FILE_NUMBER_AT, big, field::FILE_NUMBER);
+    numbers::put_u32(fields, field::FILES_AT, big, files);
+    numbers::put_u32(fields, field::FILE_NUMBER_AT, big, file);
     memory::clear(&mut fields[field::FLAGS_AT..field::PREFIX_AT]);
 }
 
@@ -92,7 +92,7 @@ fn first_fields(h: Head, big: bool) -> [u8; 52]
 {
     let mut fields = [0; field::PREFIX_AT];
     put_versions(&mut fields, big, h.version, h.patch, h.format);
-    put_shape(&mut fields, big, h.blocksize, h.n);
+    put_shape(&mut fields, big, h.blocksize, h.n, h.files, h.file);
     fields
 }
 

@@ -20,11 +20,12 @@ use Rattle.format.specs.Limits.{maxTasks, minBlocksize, maxBlocksize, ma
 use Rattle.format.specs.Layout.{meta1End, meta2Start}
 use Rattle.format.proofs.Chunks.{meta1-before-data}
 use Rattle.format.specs.declared.head.Head.{Head}
+use Rattle.format.specs.declared.head.File.{File}
 use Rattle.format.specs.declared.fault.Verdict.{Verdict}
 use Rattle.format.specs.Refusals.{Test, firstFailing, verdict, passed}
 use Rattle.format.specs.Meta1
 use Rattle.format.specs.Meta2
-use Rattle.format.specs.Record.{isBig, holds, meta2At, endAt}
+use Rattle.format.specs.Record.{isBig, filesOf, fileOf, holds, meta2At, endAt}
 use Rattle.format.specs.Judge.{is, magicIn, bigIn, orderedIn, tasksIn, maxchunksIn, headIn, sizeIn, meta2In, startTests, fieldTests, fixedTests, rankTests, requestedTests, lastTests, restTests, meta1Tests, countIn, countTests, greatestTest, valueTest, valueTests, countsTests, meta2Tests}
 use Rattle.format.proofs.Refusals.{Numbered, first-passes, both-pass, next-passes, none-fails, all-pass}
 use Rattle.format.proofs.Verdicts.{each-append, each-join, join-verdict, join-hold, join-pass, fields-numbered, fields-verdict, fields-hold, fields-pass}
@@ -37,21 +38,21 @@ is-refl v = within-holds v v v (le-refl v) (le-refl v)
 -- ---- META1
 
 -- what holds of the fields before the last two, where xs are the image's first bytes and `len` is the length of the whole
-pub record FrontHolds (xs : List ℕ) (len : ℕ) : Type 0 where
+pub record FrontHolds (f : File) (xs : List ℕ) (len : ℕ) : Type 0 where
   pub magic-is : magicIn xs ≡ true
   pub order-is : Meta1.orderField (bigIn xs) xs ≡ pos Meta1.orderNumber
   pub format : formatRule (Meta1.formatField (bigIn xs) xs) ≡ true
   pub blocksize : blocksizeRule (Meta1.blocksizeField (bigIn xs) xs) ≡ true
   pub tasks : tasksRule (Meta1.tasksField (bigIn xs) xs) ≡ true
-  pub files-are : Meta1.filesField (bigIn xs) xs ≡ pos Meta1.fileCount
-  pub file-number-is : Meta1.fileNumberField (bigIn xs) xs ≡ pos Meta1.fileNumber
+  pub files-are : Meta1.filesField (bigIn xs) xs ≡ pos (filesOf f)
+  pub file-number-is : Meta1.fileNumberField (bigIn xs) xs ≡ pos (fileOf f)
   pub long : meta1End (tasksIn xs) ≤ len
   pub ranks : ranksRule (tasksIn xs) (Meta1.rankField (bigIn xs) xs) ≡ true
   pub sizes : sizesRule (tasksIn xs) (Meta1.sizeField (bigIn xs) xs (tasksIn xs)) ≡ true
 
 -- what holds of all fields
-pub record Meta1Holds (xs : List ℕ) (len : ℕ) : Type 0 where
-  pub front : FrontHolds xs len
+pub record Meta1Holds (f : File) (xs : List ℕ) (len : ℕ) : Type 0 where
+  pub front : FrontHolds f xs len
   pub maxchunks : maxchunksRule (Meta1.maxchunksField (bigIn xs) xs (tasksIn xs)) ≡ true
   pub start-is : Meta1.startField (bigIn xs) xs (tasksIn xs) ≡ pos (meta2In xs)
   pub fits : endAt (headIn xs) (sizeIn xs) (maxchunksIn xs) ≤ len
@@ -109,14 +110,6 @@ module _ (xs : List ℕ) where
     unfolding startTests
     start-numbered = omega arith
 
-    pub field-numbered : Numbered (fieldTests xs len)
-    unfolding fieldTests
-    field-numbered = omega arith
-
-    pub fixed-numbered : Numbered (fixedTests xs len)
-    unfolding fixedTests startTests fieldTests
-    fixed-numbered = omega arith
-
     pub rank-numbered : Numbered (rankTests xs)
     unfolding rankTests
     rank-numbered = fields-numbered 8 (omega arith) _ (rankRule (Meta1.rankField (bigIn xs) xs)) (tasksIn xs)
@@ -128,12 +121,6 @@ module _ (xs : List ℕ) where
     last-numbered : Numbered (lastTests xs len)
     unfolding lastTests
     last-numbered = omega arith
-
-    pub meta1-numbered : Numbered (meta1Tests xs len)
-    unfolding meta1Tests restTests
-    meta1-numbered =
-        each-append _ (fixedTests xs len) _ fixed-numbered
-        (each-append _ (rankTests xs) _ rank-numbered (each-append _ (requestedTests xs) _ size-numbered last-numbered))
 
     -- ranks and sizes pass exactly where they keep their rules
     pub ranks-hold : firstFailing (rankTests xs) ≡ 0 → ranksRule (tasksIn xs) (Meta1.rankField (bigIn xs) xs) ≡ true
@@ -152,14 +139,29 @@ module _ (xs : List ℕ) where
     unfolding requestedTests sizesRule
     sizes-pass e = fields-pass 9 (omega arith) _ _ (tasksIn xs) e
 
-    pub meta1-holds : firstFailing (meta1Tests xs len) ≡ 0 → Meta1Holds xs len
+  module _ (f : File) (len : ℕ) where
+    pub field-numbered : Numbered (fieldTests xs f len)
+    unfolding fieldTests
+    field-numbered = omega arith
+
+    pub fixed-numbered : Numbered (fixedTests xs f len)
+    unfolding fixedTests startTests fieldTests
+    fixed-numbered = omega arith
+
+    pub meta1-numbered : Numbered (meta1Tests xs f len)
+    unfolding meta1Tests restTests
+    meta1-numbered =
+        each-append _ (fixedTests xs f len) _ fixed-numbered
+        (each-append _ (rankTests xs) _ (rank-numbered len) (each-append _ (requestedTests xs) _ (size-numbered len) (last-numbered len)))
+
+    pub meta1-holds : firstFailing (meta1Tests xs f len) ≡ 0 → Meta1Holds f xs len
     unfolding meta1Tests startTests fieldTests fixedTests lastTests restTests
     meta1-holds e =
-        let (fixed, rest) = both-pass (fixedTests xs len) _ fixed-numbered e in
-        let (ranks, rest) = both-pass (rankTests xs) _ rank-numbered rest in
-        let (sizes, last) = both-pass (requestedTests xs) _ size-numbered rest in
-        let (mark, (order, (short, (format, (blocksize, (tasks, (files, (fileNumber, (long, end))))))))) = none-fails (fixedTests xs len) fixed-numbered fixed in
-        let (unclosed, (maxchunks, (place, (fits, end)))) = none-fails (lastTests xs len) last-numbered last in
+        let (fixed, rest) = both-pass (fixedTests xs f len) _ fixed-numbered e in
+        let (ranks, rest) = both-pass (rankTests xs) _ (rank-numbered len) rest in
+        let (sizes, last) = both-pass (requestedTests xs) _ (size-numbered len) rest in
+        let (mark, (order, (short, (format, (blocksize, (tasks, (files, (fileNumber, (long, end))))))))) = none-fails (fixedTests xs f len) fixed-numbered fixed in
+        let (unclosed, (maxchunks, (place, (fits, end)))) = none-fails (lastTests xs len) (last-numbered len) last in
         record {
           front = record {
             magic-is = not-false _ (or-right (ltb len (length Meta1.magic)) _ mark);
@@ -170,8 +172,8 @@ module _ (xs : List ℕ) where
             files-are = within-one _ _ (not-false _ files);
             file-number-is = within-one _ _ (not-false _ fileNumber);
             long = ltb-false _ _ long;
-            ranks = ranks-hold ranks;
-            sizes = sizes-hold sizes;
+            ranks = ranks-hold len ranks;
+            sizes = sizes-hold len sizes;
           };
           maxchunks = not-false _ maxchunks;
           start-is = within-one _ _ (not-false _ place);
@@ -179,7 +181,7 @@ module _ (xs : List ℕ) where
         }
 
     -- META2 never starts at 0
-    start-some : FrontHolds xs len → 0 < meta2In xs
+    start-some : FrontHolds f xs len → 0 < meta2In xs
     unfolding headIn meta2In meta2At meta2Start meta1End
     start-some h =
         let b : ℕ = natural (Meta1.blocksizeField (bigIn xs) xs) in
@@ -187,22 +189,22 @@ module _ (xs : List ℕ) where
         omega (arith, meta1-before-data b (tasksIn xs) some)
 
     -- where the fields before the last two keep their rules, the last two are asked
-    pub front-passes : FrontHolds xs len → firstFailing (meta1Tests xs len) ≡ firstFailing (lastTests xs len)
+    pub front-passes : FrontHolds f xs len → firstFailing (meta1Tests xs f len) ≡ firstFailing (lastTests xs len)
     unfolding meta1Tests startTests fieldTests fixedTests restTests meta1End
     front-passes h =
         let mark = or-both (le-ltb len (length Meta1.magic) (omega arith)) (ap not (h .magic-is)) in
         let order = or-both (le-ltb len 8 (omega arith)) (ap not (ordered-holds (h .order-is))) in
         let short = le-ltb len Meta1.fixedLength (omega arith) in
-        let files = ap (λ (z : ℤ). not (is Meta1.fileCount z)) (h .files-are) in
-        let fileNumber = ap (λ (z : ℤ). not (is Meta1.fileNumber z)) (h .file-number-is) in
+        let files = ap (λ (z : ℤ). not (is (filesOf f) z)) (h .files-are) ∙ ap not (is-refl (filesOf f)) in
+        let fileNumber = ap (λ (z : ℤ). not (is (fileOf f) z)) (h .file-number-is) ∙ ap not (is-refl (fileOf f)) in
         let long = le-ltb len (meta1End (tasksIn xs)) (h .long) in
-        first-passes (fixedTests xs len) _ fixed-numbered
-        (all-pass (fixedTests xs len)
+        first-passes (fixedTests xs f len) _ fixed-numbered
+        (all-pass (fixedTests xs f len)
         (mark, (order, (short, (ap not (h .format), (ap not (h .blocksize), (ap not (h .tasks), (files, (fileNumber, (long, tt))))))))))
-        ∙ first-passes (rankTests xs) _ rank-numbered (ranks-pass (h .ranks))
-        ∙ first-passes (requestedTests xs) _ size-numbered (sizes-pass (h .sizes))
+        ∙ first-passes (rankTests xs) _ (rank-numbered len) (ranks-pass len (h .ranks))
+        ∙ first-passes (requestedTests xs) _ (size-numbered len) (sizes-pass len (h .sizes))
 
-    pub meta1-passes : Meta1Holds xs len → firstFailing (meta1Tests xs len) ≡ 0
+    pub meta1-passes : Meta1Holds f xs len → firstFailing (meta1Tests xs f len) ≡ 0
     unfolding lastTests
     meta1-passes h =
         let start : ℕ = meta2In xs in
@@ -213,7 +215,7 @@ module _ (xs : List ℕ) where
         ∙ all-pass (lastTests xs len) (closed, (ap not (h .maxchunks), (place, (fits, tt))))
 
 -- the fields are numbers in their ranges
-module _ {xs : List ℕ} {len : ℕ} (h : FrontHolds xs len) where
+module _ {f : File} {xs : List ℕ} {len : ℕ} (h : FrontHolds f xs len) where
   pub format-in : InRange plainFormat idleFormat (Meta1.formatField (bigIn xs) xs)
   format-in = format-natural _ (h .format)
 
@@ -229,7 +231,7 @@ module _ {xs : List ℕ} {len : ℕ} (h : FrontHolds xs len) where
   pub size-in : (i : ℕ) → i < tasksIn xs → InRange 1 maxSize (Meta1.sizeField (bigIn xs) xs (tasksIn xs) i)
   size-in i l = within-natural 1 maxSize _ (sizes-within (tasksIn xs) (Meta1.sizeField (bigIn xs) xs (tasksIn xs)) (h .sizes) i l)
 
-pub maxchunks-in : {xs : List ℕ} {len : ℕ} → Meta1Holds xs len → InRange 0 maxBlocks (Meta1.maxchunksField (bigIn xs) xs (tasksIn xs))
+pub maxchunks-in : {f : File} {xs : List ℕ} {len : ℕ} → Meta1Holds f xs len → InRange 0 maxBlocks (Meta1.maxchunksField (bigIn xs) xs (tasksIn xs))
 unfolding maxchunksRule
 maxchunks-in h = within-natural 0 maxBlocks _ (h .maxchunks)
 

@@ -17,9 +17,10 @@ use Rattle.lists.proofs.Splice.{length-splice, getD-splice-in, getD-splice-out}
 use Rattle.format.specs.Limits.{maxTasks, maxBlocks, maxchunksRule}
 use Rattle.format.specs.Layout.{meta2End}
 use Rattle.format.specs.declared.head.Head.{Head}
+use Rattle.format.specs.declared.head.File.{File}
 use Rattle.format.specs.Meta1
 use Rattle.format.specs.Meta2
-use Rattle.format.specs.Record.{cell, listsOf, orderOf, holds, headOf, endAt}
+use Rattle.format.specs.Record.{cell, listsOf, orderOf, filesOf, fileOf, holds, headOf, endAt}
 use Rattle.format.specs.Judge.{maxchunksIn, headIn, rankIn, sizeIn, countIn, valuesIn}
 use Rattle.format.specs.Refusals.{noFault}
 use Rattle.format.proofs.Refusals.{when-accepted}
@@ -36,15 +37,15 @@ use Rattle.format.specs.Load.{meta2Bytes, loadedIn, listsIn, loadRefusal
 use Rattle.format.proofs.LoadTests.{load-holds, load-passes}
 use Rattle.format.proofs.Fronts.{FrontSays, big-is, tasks-is, size-is, maxchunks-said, start-said, front-holds}
 
-abbrev pub headSaid : Contents → Head
-headSaid s = headOf (orderOf (s .big)) (s .version) (s .patch) (s .format) (s .blocksize) (s .n)
+abbrev pub headSaid : File → Contents → Head
+headSaid f s = headOf (orderOf (s .big)) (s .version) (s .patch) (s .format) (s .blocksize) (s .n) (filesOf f) (fileOf f)
 
 abbrev pub listsSaid : Contents → List ℕ
 listsSaid s = listsOf (s .n) (s .rank) (s .size) (s .count)
 
 -- a head that was made, number by number
-pub head-says : {h : Head} {order : ℕ} {version patch : ℤ} {format blocksize n : ℕ} → h ≡ headOf order version patch format blocksize n
-    → HeadSays h order version patch format blocksize n
+pub head-says : {h : Head} {order : ℕ} {version patch : ℤ} {format blocksize n files file : ℕ}
+    → h ≡ headOf order version patch format blocksize n files file → HeadSays h order version patch format blocksize n files file
 head-says e = record {
   order-is = ap (λ (h : Head). h .order) e;
   version-is = ap (λ (h : Head). h .version) e;
@@ -52,6 +53,8 @@ head-says e = record {
   format-is = ap (λ (h : Head). h .format) e;
   blocksize-is = ap (λ (h : Head). h .blocksize) e;
   tasks-are = ap (λ (h : Head). h .n) e;
+  files-are = ap (λ (h : Head). h .files) e;
+  file-is = ap (λ (h : Head). h .file) e;
 }
 
 -- lists that were made, entry by entry
@@ -71,7 +74,7 @@ lists-hold n rank size count few {lists} e =
       as-many = length-lists n rank size count;
     })
 
-module _ (image : List ℕ) (s : Contents) (one : HasMeta1 image s) (two : HasMeta2 image s) where
+module _ (f : File) (image : List ℕ) (s : Contents) (one : HasMeta1 f image s) (two : HasMeta2 image s) where
   pub few : s .n ≤ maxTasks
   few = one .bounds .tasks-range .1
 
@@ -81,20 +84,20 @@ module _ (image : List ℕ) (s : Contents) (one : HasMeta1 image s) (two : HasMe
   unfolding maxchunksRule
   maxchunks-kept = within-holds 0 maxBlocks (s .maxchunks) zero-le (one .maxchunks-range)
 
-  pub counts-kept : (f : ℕ → ℤ) → ((i : ℕ) → i < s .n → f i ≡ pos (s .count i)) → Meta2.countsRule (s .format) (s .n) (s .maxchunks) f ≡ true
-  counts-kept f are =
+  pub counts-kept : (value : ℕ → ℤ) → ((i : ℕ) → i < s .n → value i ≡ pos (s .count i)) → Meta2.countsRule (s .format) (s .n) (s .maxchunks) value ≡ true
+  counts-kept value are =
       let (i, l, top) = two .greatest in
-      counts-hold (s .format) (s .n) (s .maxchunks) f
+      counts-hold (s .format) (s .n) (s .maxchunks) value
       (λ i l. rw (are i l) (within-holds _ (s .maxchunks) (s .count i) (idle-least (λ four. two .counts-idle four i l)) (two .counts-range i l)))
       i l (ap natural (are i l) ∙ top)
 
-  pub values-kept : (count : ℕ → ℕ) (f : ℕ → ℤ) → ((i : ℕ) → i < s .n → count i ≡ s .count i)
-      → ((i k : ℕ) → i < s .n → k < s .count i → f (Meta2.valueIndex (s .n) k i) ≡ pos (s .written k i))
-      → ((i k : ℕ) → i < s .n → s .count i ≤ k → k < s .maxchunks → f (Meta2.valueIndex (s .n) k i) ≡ Meta2.unused)
-      → Meta2.valuesRule (s .n) (s .maxchunks) (holds (headSaid s) (s .size)) count f ≡ true
+  pub values-kept : (count : ℕ → ℕ) (value : ℕ → ℤ) → ((i : ℕ) → i < s .n → count i ≡ s .count i)
+      → ((i k : ℕ) → i < s .n → k < s .count i → value (Meta2.valueIndex (s .n) k i) ≡ pos (s .written k i))
+      → ((i k : ℕ) → i < s .n → s .count i ≤ k → k < s .maxchunks → value (Meta2.valueIndex (s .n) k i) ≡ Meta2.unused)
+      → Meta2.valuesRule (s .n) (s .maxchunks) (holds (headSaid f s) (s .size)) count value ≡ true
   unfolding holds
-  values-kept count f counts used others =
-      values-hold (s .n) (s .maxchunks) _ count f
+  values-kept count value counts used others =
+      values-hold (s .n) (s .maxchunks) _ count value
       (λ i k l h u.
       let v : k < s .count i = rw (counts i l) at u in
       rw (used i k l v)
@@ -104,7 +107,7 @@ module _ (image : List ℕ) (s : Contents) (one : HasMeta1 image s) (two : HasMe
   -- ---- what is read of the image is what it says
 
   -- its fields before the last two hold what it says of them
-  front : FrontSays image (s .big) (s .format) (s .blocksize) (s .n) (s .rank) (s .size)
+  front : FrontSays f image (s .big) (s .format) (s .blocksize) (s .n) (s .rank) (s .size)
   front = record {
     bounds = one .bounds;
     long = one .long;
@@ -127,7 +130,7 @@ module _ (image : List ℕ) (s : Contents) (one : HasMeta1 image s) (two : HasMe
   unfolding rankIn
   rank-is i l = rw (big-is front) (ap natural (one .ranks-are i l))
 
-  head-is : headIn image ≡ headSaid s
+  head-is : headIn image ≡ headSaid f s
   unfolding headIn
   head-is = λ i. record {
     order = orderOf (big-is front i);
@@ -136,23 +139,25 @@ module _ (image : List ℕ) (s : Contents) (one : HasMeta1 image s) (two : HasMe
     format = ap natural (ap (λ (b : Bool). Meta1.formatField b image) (big-is front) ∙ one .format-is) i;
     blocksize = ap natural (ap (λ (b : Bool). Meta1.blocksizeField b image) (big-is front) ∙ one .blocksize-is) i;
     n = tasks-is front i;
+    files = ap natural (ap (λ (b : Bool). Meta1.filesField b image) (big-is front) ∙ one .files-are) i;
+    file = ap natural (ap (λ (b : Bool). Meta1.fileNumberField b image) (big-is front) ∙ one .file-number-is) i;
   }
 
   end-said : endAt (headIn image) (sizeIn image) (maxchunksIn image) ≡ meta2End (s .blocksize) (s .n) (s .size) (s .maxchunks)
   unfolding endAt
-  end-said = rw (head-is, maxchunks-is) (endAt-agree (headSaid s) (sizeIn image) (s .size) (size-is front) (s .maxchunks))
+  end-said = rw (head-is, maxchunks-is) (endAt-agree (headSaid f s) (sizeIn image) (s .size) (size-is front) (s .maxchunks))
 
   part-is : meta2Bytes image ≡ meta2Said image s
   unfolding meta2Bytes
   part-is = rw (tasks-is front, maxchunks-is, start-said front (one .maxchunks-is))
 
-  count-is : (i : ℕ) → i < s .n → countIn (headSaid s) (meta2Said image s) i ≡ s .count i
+  count-is : (i : ℕ) → i < s .n → countIn (headSaid f s) (meta2Said image s) i ≡ s .count i
   unfolding countIn
   count-is i l = rw (isBig-order (s .big)) (ap natural (two .counts-are i l))
 
   -- ---- its tests pass
 
-  first-holds : Meta1Holds image (length image)
+  first-holds : Meta1Holds f image (length image)
   first-holds = record {
     front = front-holds front;
     maxchunks = rw (big-is front, tasks-is front, one .maxchunks-is) maxchunks-kept;
@@ -160,16 +165,16 @@ module _ (image : List ℕ) (s : Contents) (one : HasMeta1 image s) (two : HasMe
     fits = rw end-said (two .fits);
   }
 
-  second-holds : Meta2Holds (headSaid s) (sizeIn image) (s .maxchunks) (meta2Said image s)
+  second-holds : Meta2Holds (headSaid f s) (sizeIn image) (s .maxchunks) (meta2Said image s)
   second-holds = record {
     counts = rw (isBig-order (s .big)) (counts-kept _ (two .counts-are));
     values =
-        values-agree (s .n) (s .maxchunks) _ _ _ _ _ _ (holds-agree (headSaid s) (sizeIn image) (s .size) (size-is front)) (λ i l. refl) (λ j l. refl)
+        values-agree (s .n) (s .maxchunks) _ _ _ _ _ _ (holds-agree (headSaid f s) (sizeIn image) (s .size) (size-is front)) (λ i l. refl) (λ j l. refl)
         ∙ rw (isBig-order (s .big)) (values-kept _ _ count-is (two .used-first) (two .others-unused));
   }
 
-  pub every : (cells : ℕ) → s .n * s .maxchunks ≤ cells → loadRefusal image cells ≡ 0
-  every cells table-long = load-passes image cells (record {
+  pub every : (cells : ℕ) → s .n * s .maxchunks ≤ cells → loadRefusal f image cells ≡ 0
+  every cells table-long = load-passes f image cells (record {
     first = first-holds;
     table-long = rw (tasks-is front, maxchunks-is) table-long;
     second = rw (head-is, maxchunks-is, part-is) second-holds;
@@ -180,37 +185,37 @@ module _ (image : List ℕ) (s : Contents) (one : HasMeta1 image s) (two : HasMe
   abbrev values : List ℤ
   values = listBelow (s .n * s .maxchunks) (Meta2.valueField (s .big) (meta2Said image s) (s .n))
 
-  values-said : valuesIn (headSaid s) (s .maxchunks) (meta2Said image s) ≡ values
+  values-said : valuesIn (headSaid f s) (s .maxchunks) (meta2Said image s) ≡ values
   unfolding valuesIn
   values-said = rw (isBig-order (s .big))
 
-  module _ (table : List ℤ) (accepted : loadRefusal image (length table) ≡ 0) where
-    answer-is : loadAnswer image table ≡ record { loaded = loadedIn image; lists = listsIn image; refusal = 0; fault = noFault }
+  module _ (table : List ℤ) (accepted : loadRefusal f image (length table) ≡ 0) where
+    answer-is : loadAnswer f image table ≡ record { loaded = loadedIn image; lists = listsIn image; refusal = 0; fault = noFault }
     unfolding loadAnswer checkAnswer
     answer-is = when-accepted _ _ _ accepted
 
-    pub loaded-is : loadAnswer image table .loaded ≡ loadedOf (headSaid s) (s .maxchunks) 0
+    pub loaded-is : loadAnswer f image table .loaded ≡ loadedOf (headSaid f s) (s .maxchunks) 0
     unfolding loadedIn
     loaded-is = rw (answer-is, head-is, maxchunks-is)
 
-    pub lists-are : loadAnswer image table .lists ≡ listsSaid s
+    pub lists-are : loadAnswer f image table .lists ≡ listsSaid s
     unfolding listsIn
     lists-are =
         ap (λ (a : LoadAnswer). a .lists) answer-is
         ∙ rw (tasks-is front, head-is, part-is) (lists-agree (s .n) _ _ _ _ _ _ rank-is (size-is front) count-is)
 
-    table-is : loadTable image table ≡ splice table 0 values
+    table-is : loadTable f image table ≡ splice table 0 values
     unfolding loadTable
     table-is = when-accepted _ _ _ accepted ∙ ap (splice table 0) (rw (head-is, maxchunks-is, part-is) values-said)
 
     pub table-long : s .n * s .maxchunks ≤ length table
-    table-long = rw (tasks-is front, maxchunks-is) at (load-holds image (length table) accepted .table-long)
+    table-long = rw (tasks-is front, maxchunks-is) at (load-holds f image (length table) accepted .table-long)
 
     fits : 0 + length values ≤ length table
     fits = rw (zero-add, length-list) table-long
 
     cell-is : (i k : ℕ) → i < s .n → k < s .maxchunks
-        → cell (loadTable image table) (Meta2.valueIndex (s .n) k i) ≡ valueOf image s k i
+        → cell (loadTable f image table) (Meta2.valueIndex (s .n) k i) ≡ valueOf image s k i
     cell-is i k l h =
         let j : ℕ = Meta2.valueIndex (s .n) k i in
         let below = valueIndex-lt (s .n) (s .maxchunks) k i l h in
@@ -218,7 +223,7 @@ module _ (image : List ℕ) (s : Contents) (one : HasMeta1 image s) (two : HasMe
         (rw zero-add at (getD-splice-in table 0 values fits j (pos 0) (rw length-list below))
         ∙ getD-list _ _ j (pos 0) below)
 
-    recorded : Recorded s (loadAnswer image table .loaded) (loadAnswer image table .lists)
+    recorded : Recorded f s (loadAnswer f image table .loaded) (loadAnswer f image table .lists)
     recorded =
         let e = loaded-is in record {
           head = head-says (ap (λ (l : Loaded). l .head) e);
@@ -227,7 +232,7 @@ module _ (image : List ℕ) (s : Contents) (one : HasMeta1 image s) (two : HasMe
           listed = lists-hold (s .n) (s .rank) (s .size) (s .count) few lists-are;
         }
 
-    pub says : Says s (loadAnswer image table .loaded) (loadAnswer image table .lists) table (loadTable image table)
+    pub says : Says f s (loadAnswer f image table .loaded) (loadAnswer f image table .lists) table (loadTable f image table)
     says = record {
       recorded = recorded;
       used-cells = λ i k l u. cell-is i k l (omega (arith, two .counts-range i l)) ∙ two .used-first i k l u;

@@ -14,9 +14,12 @@ use Rattle.lists.proofs.Below.{and-right}
 use Rattle.endian.proofs.Signed.{within-signed, within-facts, natural-signed}
 use Rattle.format.specs.Limits.{maxTasks, minBlocksize, maxBlocksize, maxBlocks, plainFormat, idleFormat, formatRule, tasksRule, powerOfTwo, blocksizeRule, maxchunksRule}
 use Rattle.format.specs.Layout.{meta1End}
+use Rattle.format.specs.declared.head.File.{File}
+use Rattle.format.specs.declared.head.File.the-variants.{Single, First, Second}
 use Rattle.format.specs.Kinds
+use Rattle.format.specs.Record.{filesOf, fileOf}
 use Rattle.format.specs.Refusals.{Test, testAt, verdict}
-use Rattle.format.specs.Meta1.{fileCount, fileNumber, formatAt, blocksizeAt, tasksAt, filesAt, fileNumberAt}
+use Rattle.format.specs.Meta1.{formatAt, blocksizeAt, tasksAt, filesAt, fileNumberAt}
 use Rattle.format.specs.Judge.{is, numberFault, endFault, bigIn, tasksIn, fieldTests}
 use Rattle.format.proofs.Verdicts.{fails-first, passes-first}
 use Rattle.format.proofs.Formats.{format-number}
@@ -64,16 +67,27 @@ pub maxchunks-facts : (m : ℕ) → maxchunksRule (pos m) ≡ true → m ≤ max
 unfolding maxchunksRule
 maxchunks-facts m e = within-facts 0 maxBlocks m e .1
 
--- ---- the tests of the fields before the lists, of unsigned readings: v of fileformat_version, b of blocksize, n of ntasks, f of nfiles and g of
--- filenumber
+-- nfiles and filenumber are small numbers
+pub files-small : (f : File) → filesOf f < 2 ^ 31
+files-small Single = omega arith
+files-small First = omega arith
+files-small Second = omega arith
 
-abbrev pub unsignedTests : ℕ → ℕ → ℕ → ℕ → ℕ → ℕ → List Test
-unsignedTests len v b n f g =
+pub file-small : (f : File) → fileOf f < 2 ^ 31
+file-small Single = omega arith
+file-small First = omega arith
+file-small Second = omega arith
+
+-- ---- the tests of the fields before the lists, of unsigned readings: v of fileformat_version, b of blocksize, n of ntasks, k of nfiles and j of
+-- filenumber, of the file f
+
+abbrev pub unsignedTests : File → ℕ → ℕ → ℕ → ℕ → ℕ → ℕ → List Test
+unsignedTests f len v b n k j =
     testAt 4 (numberFault Kinds.format formatAt (signed 31 v) plainFormat idleFormat) (not (formatRule (pos v)))
     ∷ testAt 5 (numberFault Kinds.blocksize blocksizeAt (signed 31 b) minBlocksize maxBlocksize) (not (blocksizeRule (pos b)))
     ∷ testAt 6 (numberFault Kinds.tasks tasksAt (signed 31 n) 1 maxTasks) (not (tasksRule (pos n)))
-    ∷ testAt 7 (numberFault Kinds.files filesAt (signed 31 f) fileCount fileCount) (not (eqb f fileCount))
-    ∷ testAt 7 (numberFault Kinds.fileNumber fileNumberAt (signed 31 g) fileNumber fileNumber) (not (eqb g fileNumber))
+    ∷ testAt 7 (numberFault Kinds.files filesAt (signed 31 k) (filesOf f) (filesOf f)) (not (eqb k (filesOf f)))
+    ∷ testAt 7 (numberFault Kinds.fileNumber fileNumberAt (signed 31 j) (fileOf f) (fileOf f)) (not (eqb j (fileOf f)))
     ∷ testAt 3 (endFault len (meta1End n)) (ltb len (meta1End n))
     ∷ []
 
@@ -85,12 +99,12 @@ verdict-agree t xs ys h = go (t .fails) refl
     go true e = fails-first t xs e ∙ sym (fails-first t ys e)
     go false e = passes-first t xs e ∙ h e ∙ sym (passes-first t ys e)
 
-pub fields-unsigned : (xs : List ℕ) (len : ℕ) (big : Bool) (v b n f g : ℕ) → big ≡ bigIn xs → v ≡ numberAt big 4 xs formatAt
-    → b ≡ numberAt big 4 xs blocksizeAt → n ≡ numberAt big 4 xs tasksAt → f ≡ numberAt big 4 xs filesAt → g ≡ numberAt big 4 xs fileNumberAt
-    → verdict (fieldTests xs len) ≡ verdict (unsignedTests len v b n f g)
+pub fields-unsigned : (xs : List ℕ) (f : File) (len : ℕ) (big : Bool) (v b n k j : ℕ) → big ≡ bigIn xs → v ≡ numberAt big 4 xs formatAt
+    → b ≡ numberAt big 4 xs blocksizeAt → n ≡ numberAt big 4 xs tasksAt → k ≡ numberAt big 4 xs filesAt → j ≡ numberAt big 4 xs fileNumberAt
+    → verdict (fieldTests xs f len) ≡ verdict (unsignedTests f len v b n k j)
 unfolding fieldTests tasksIn
-fields-unsigned xs len big v b n f g same at16 at20 at24 at28 at32 =
-    rw (sym same, sym at16, sym at20, sym at24, sym at28, sym at32, format-number v, blocksize-number b, tasks-number n, is-number fileCount 31 f (omega arith), is-number fileNumber 31 g (omega arith))
+fields-unsigned xs f len big v b n k j same at16 at20 at24 at28 at32 =
+    rw (sym same, sym at16, sym at20, sym at24, sym at28, sym at32, format-number v, blocksize-number b, tasks-number n, is-number (filesOf f) 31 k (files-small f), is-number (fileOf f) 31 j (file-small f))
     (verdict-agree _ _ _ (λ _. verdict-agree _ _ _ (λ _. verdict-agree _ _ _
     (λ e.
     rw (natural-signed 31 n (omega (arith, tasks-facts n (not-false _ e) .1))) refl))))

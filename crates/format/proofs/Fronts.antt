@@ -11,10 +11,12 @@ use Rattle.format.specs.Layout.{meta1End, meta2Start}
 use Rattle.format.proofs.Chunks.{meta2Start-agree}
 use Rattle.format.proofs.Power.{blocksize-facts}
 use Rattle.format.specs.Meta1
-use Rattle.format.specs.Record.{entry, isBig, meta2At}
+use Rattle.format.specs.declared.head.File.{File}
+use Rattle.format.specs.Record.{entry, isBig, filesOf, fileOf, meta2At}
 use Rattle.format.specs.Judge.{bigIn, tasksIn, maxchunksIn, headIn, sizeIn, meta2In}
 use Rattle.format.specs.Open.{Opening, tasks, openHead}
 use Rattle.format.specs.Container.{InBounds, IsFormat}
+use Rattle.format.proofs.Fields.{files-small, file-small}
 use Rattle.format.proofs.Formats.{format-known, format-kept, format-small}
 use Rattle.format.proofs.InBounds.{in-bounds, block-kept, tasks-kept, ranks-kept, sizes-kept}
 use Rattle.format.proofs.Accepting.{FrontHolds, magic-holds, order-forced}
@@ -22,7 +24,7 @@ use Rattle.format.proofs.Stored
 use Rattle.format.proofs.Opening.{PlanHolds}
 
 -- these fields of an image hold these numbers, and they keep their rules
-pub record FrontSays (image : List ℕ) (big : Bool) (format blocksize n : ℕ) (rank size : ℕ → ℕ) : Type 0 where
+pub record FrontSays (f : File) (image : List ℕ) (big : Bool) (format blocksize n : ℕ) (rank size : ℕ → ℕ) : Type 0 where
   pub bounds : InBounds blocksize n rank size
   pub long : meta1End n ≤ length image
   pub magic-is : take (length Meta1.magic) image ≡ Meta1.magic
@@ -31,15 +33,15 @@ pub record FrontSays (image : List ℕ) (big : Bool) (format blocksize n : ℕ) 
   pub format-known : IsFormat format
   pub blocksize-is : Meta1.blocksizeField big image ≡ pos blocksize
   pub tasks-are : Meta1.tasksField big image ≡ pos n
-  pub files-are : Meta1.filesField big image ≡ pos Meta1.fileCount
-  pub file-number-is : Meta1.fileNumberField big image ≡ pos Meta1.fileNumber
+  pub files-are : Meta1.filesField big image ≡ pos (filesOf f)
+  pub file-number-is : Meta1.fileNumberField big image ≡ pos (fileOf f)
   pub ranks-are : (i : ℕ) → i < n → Meta1.rankField big image i ≡ pos (rank i)
   pub sizes-are : (i : ℕ) → i < n → Meta1.sizeField big image n i ≡ pos (size i)
 
 -- they do so where the image starts with META1 of an opening, up to its last two fields
 pub front-says : (o : Opening) → PlanHolds o → (image : List ℕ) → meta1End (tasks o) ≤ length image
     → take (Meta1.lastAt (tasks o)) image ≡ Meta1.meta1Front (openHead o) (entry (o .ranks)) (entry (o .sizes)) (o .prefix)
-    → FrontSays image (isBig (openHead o)) (o .plan .format) (o .plan .blocksize) (tasks o) (entry (o .ranks)) (entry (o .sizes))
+    → FrontSays (o .file) image (isBig (openHead o)) (o .plan .format) (o .plan .blocksize) (tasks o) (entry (o .ranks)) (entry (o .sizes))
 unfolding openHead
 front-says o p image long front =
     let short = p .prefix-short in
@@ -55,25 +57,26 @@ front-says o p image long front =
       format-known = known;
       blocksize-is = Stored.blocksize-back _ _ _ _ _ short front (omega arith);
       tasks-are = Stored.tasks-back _ _ _ _ _ short front (omega (arith, p .few-tasks));
-      files-are = Stored.files-back _ _ _ _ _ short front;
-      file-number-is = Stored.file-number-back _ _ _ _ _ short front;
+      files-are = Stored.files-back _ _ _ _ _ short front (files-small (o .file));
+      file-number-is = Stored.file-number-back _ _ _ _ _ short front (file-small (o .file));
       ranks-are = λ i l. Stored.rank-back _ _ _ _ _ short front i l (omega (arith, bounds .ranks-range i l));
       sizes-are = λ i l. Stored.size-back _ _ _ _ _ short front i l (omega (arith, bounds .sizes-range i l));
     }
 
 -- what is read of such an image is what its fields hold, and their tests pass
-module _ {image : List ℕ} {big : Bool} {format blocksize n : ℕ} {rank size : ℕ → ℕ} (f : FrontSays image big format blocksize n rank size) where
+module _ {f : File} {image : List ℕ} {big : Bool} {format blocksize n : ℕ} {rank size : ℕ → ℕ}
+    (says : FrontSays f image big format blocksize n rank size) where
   pub big-is : bigIn image ≡ big
   unfolding meta1End
-  big-is = order-forced image big (omega (arith, f .long)) (f .order-is)
+  big-is = order-forced image big (omega (arith, says .long)) (says .order-is)
 
   pub tasks-is : tasksIn image ≡ n
   unfolding tasksIn
-  tasks-is = rw big-is (ap natural (f .tasks-are))
+  tasks-is = rw big-is (ap natural (says .tasks-are))
 
   pub size-is : (i : ℕ) → i < n → sizeIn image i ≡ size i
   unfolding sizeIn
-  size-is i l = rw (big-is, tasks-is) (ap natural (f .sizes-are i l))
+  size-is i l = rw (big-is, tasks-is) (ap natural (says .sizes-are i l))
 
   -- what is read of maxchunks, and where META2 starts by it
   module _ {m : ℕ} (is : Meta1.maxchunksField big image n ≡ pos m) where
@@ -83,18 +86,18 @@ module _ {image : List ℕ} {big : Bool} {format blocksize n : ℕ} {rank size :
 
     pub start-said : meta2In image ≡ meta2Start blocksize n size m
     unfolding meta2In meta2At headIn
-    start-said = rw (big-is, f .blocksize-is, tasks-is, maxchunks-said) (meta2Start-agree blocksize n (sizeIn image) size size-is m)
+    start-said = rw (big-is, says .blocksize-is, tasks-is, maxchunks-said) (meta2Start-agree blocksize n (sizeIn image) size size-is m)
 
-  pub front-holds : FrontHolds image (length image)
+  pub front-holds : FrontHolds f image (length image)
   front-holds = record {
-    magic-is = magic-holds image (f .magic-is);
-    order-is = rw big-is (f .order-is);
-    format = rw (big-is, f .format-is) (format-kept (f .format-known));
-    blocksize = rw (big-is, f .blocksize-is) (block-kept (f .bounds));
-    tasks = rw (big-is, f .tasks-are) (tasks-kept (f .bounds));
-    files-are = rw big-is (f .files-are);
-    file-number-is = rw big-is (f .file-number-is);
-    long = rw tasks-is (f .long);
-    ranks = rw (big-is, tasks-is) (ranks-kept (f .bounds) _ (f .ranks-are));
-    sizes = rw (big-is, tasks-is) (sizes-kept (f .bounds) _ (f .sizes-are));
+    magic-is = magic-holds image (says .magic-is);
+    order-is = rw big-is (says .order-is);
+    format = rw (big-is, says .format-is) (format-kept (says .format-known));
+    blocksize = rw (big-is, says .blocksize-is) (block-kept (says .bounds));
+    tasks = rw (big-is, says .tasks-are) (tasks-kept (says .bounds));
+    files-are = rw big-is (says .files-are);
+    file-number-is = rw big-is (says .file-number-is);
+    long = rw tasks-is (says .long);
+    ranks = rw (big-is, tasks-is) (ranks-kept (says .bounds) _ (says .ranks-are));
+    sizes = rw (big-is, tasks-is) (sizes-kept (says .bounds) _ (says .sizes-are));
   }

@@ -15,17 +15,18 @@ use Rattle.endian.proofs.Signed.{within-natural, within-holds}
 use Rattle.format.specs.Limits.{maxBlocks, formatRule, blocksizeRule, tasksRule, ranksRule, sizesRule, maxchunksRule}
 use Rattle.format.specs.Layout.{meta2Start, meta2Length, meta2End}
 use Rattle.format.specs.declared.head.Head.{Head}
+use Rattle.format.specs.declared.head.File.{File}
 use Rattle.format.specs.Refusals.{Test, firstFailing}
-use Rattle.format.specs.Record.{cell, rankOf, sizeOf, countOf, isOrder, holds, headSound, tooShort, cellsAgree, recordTests}
+use Rattle.format.specs.Record.{cell, rankOf, sizeOf, countOf, isOrder, filesOf, fileOf, suits, holds, headSound, tooShort, cellsAgree, recordTests}
 use Rattle.format.proofs.Refusals.{Each, answered}
 use Rattle.format.proofs.Rules.{values-used, values-unused, values-hold, counts-greatest, counts-hold}
 use Rattle.format.specs.declared.session.Session.{Session}
 use Rattle.format.specs.Session.{State, sessionSound, sessionTests}
-use Rattle.format.proofs.Sessions.{session-holds, session-sound}
+use Rattle.format.proofs.Sessions.{session-suits, session-holds, session-sound}
 use Rattle.format.specs.declared.loaded.Loaded.{Loaded}
 use Rattle.format.specs.Loaded.{loadedSound}
 use Rattle.format.specs.Reads.{Container, loadedTests}
-use Rattle.format.proofs.LoadedRecords.{loaded-counts, loaded-holds}
+use Rattle.format.proofs.LoadedRecords.{loaded-suits, loaded-counts, loaded-holds}
 use Rattle.format.specs.Accepted.{IsOrder, LongEnough, GoodHead, GoodSession, GoodLoaded, GoodCells, Judged, SessionJudged, LoadedJudged}
 use Rattle.lists.specs.Logic.{Not, Exactly}
 use Rattle.format.proofs.Formats.{format-known, format-kept, least-idle, idle-least}
@@ -43,16 +44,26 @@ pub order-holds : (order : ℕ) → IsOrder order → isOrder order ≡ true
 order-holds order (inl e) = rw e refl
 order-holds order (inr e) = rw e refl
 
+-- the file that the call means
+pub suits-are : (f : File) (h : Head) → suits f h ≡ true → (h .files ≡ filesOf f) × (h .file ≡ fileOf f)
+suits-are f h e =
+    (eqb-true (h .files) (filesOf f) (and-left _ (eqb (h .file) (fileOf f)) e), eqb-true (h .file) (fileOf f) (and-right (eqb (h .files) (filesOf f)) _ e))
+
+pub suits-holds : (f : File) (h : Head) → h .files ≡ filesOf f → h .file ≡ fileOf f → suits f h ≡ true
+suits-holds f h files file = rw (eq-eqb (h .files) (filesOf f) files, eq-eqb (h .file) (fileOf f) file)
+
 module _ (h : Head) (lists : List ℕ) where
-  head-good : headSound h lists ≡ true → GoodHead h lists
+  head-good : (f : File) → suits f h ≡ true → headSound h lists ≡ true → GoodHead f h lists
   unfolding headSound
-  head-good e =
+  head-good f fit e =
       let four = and-left _ (sizesRule (h .n) (λ i. pos (sizeOf lists i))) e in
       let three = and-left _ (ranksRule (h .n) (λ i. pos (rankOf lists i))) four in
       let two = and-left _ (tasksRule (pos (h .n))) three in
       let one = and-left _ (blocksizeRule (pos (h .blocksize))) two in
       let first : Bool = isOrder (h .order) && formatRule (pos (h .format)) in
       record {
+        files = suits-are f h fit .0;
+        file = suits-are f h fit .1;
         order = order-is (h .order) (and-left _ (formatRule (pos (h .format))) one);
         format = format-known (and-right (isOrder (h .order)) _ one);
         bounds =
@@ -66,7 +77,7 @@ module _ (h : Head) (lists : List ℕ) where
             _ e);
       }
 
-  head-sound : GoodHead h lists → headSound h lists ≡ true
+  head-sound : {f : File} → GoodHead f h lists → headSound h lists ≡ true
   unfolding headSound
   head-sound g =
       let b = g .bounds in
@@ -113,47 +124,51 @@ module _ (closed : ℕ) (sound : Bool) where
   mark-passes : closed ≡ 0 → sound ≡ true → (not (eqb closed 0) || not sound) ≡ false
   mark-passes e f = or-both (ap not (eq-eqb closed 0 e)) (ap not f)
 
-session-exactly : (s : Session) (lists : List ℕ) → Exactly ((not (eqb (s .closed) 0) || not (sessionSound s lists)) ≡ false) (GoodSession s lists)
-session-exactly s lists = (
+session-exactly : (f : File) (s : Session) (lists : List ℕ)
+    → Exactly ((not (eqb (s .closed) 0) || not (sessionSound f s lists)) ≡ false) (GoodSession f s lists)
+session-exactly f s lists = (
   λ e.
-      let (not-closed, sound) = mark-test (s .closed) (sessionSound s lists) e in
-      let (some, (head, few, counts)) = session-holds s lists sound in
+      let (not-closed, sound) = mark-test (s .closed) (sessionSound f s lists) e in
+      let (some, (head, few, counts)) = session-holds f s lists sound in
       record {
         not-closed = not-closed;
-        head = head-good (s .head) lists head;
+        head = head-good (s .head) lists f (session-suits f s lists sound) head;
         planned-range = (some, few);
         counts-range = λ i l. counts i l .1;
         counts-idle = λ four i l. least-idle (counts i l .0) four;
       },
   λ g.
-      mark-passes (s .closed) (sessionSound s lists) (g .not-closed)
-      (session-sound s lists (g .planned-range .0) (head-sound (s .head) lists (g .head), g .planned-range .1, λ i l. (idle-least (λ four. g .counts-idle four i l), g .counts-range i l))),
+      mark-passes (s .closed) (sessionSound f s lists) (g .not-closed)
+      (session-sound f s lists (suits-holds f (s .head) (g .head .files) (g .head .file)) (g .planned-range .0) (head-sound (s .head) lists (g .head), g .planned-range .1, λ i l. (idle-least (λ four. g .counts-idle four i l), g .counts-range i l))),
 )
 
-module _ (l : Loaded) (lists : List ℕ) where
-  loaded-sound : GoodLoaded l lists → loadedSound l lists ≡ true
+module _ (f : File) (l : Loaded) (lists : List ℕ) where
+  loaded-sound : GoodLoaded f l lists → loadedSound f l lists ≡ true
   unfolding loadedSound maxchunksRule
   loaded-sound g =
       let (i, below, top) = g .greatest in
-      rw (head-sound (l .head) lists (g .head), within-holds 0 maxBlocks (l .maxchunks) zero-le (g .maxchunks-range))
-      (counts-hold (l .head .format) (l .head .n) (l .maxchunks) (λ i. pos (countOf lists i))
-      (λ i below. within-holds _ (l .maxchunks) (countOf lists i) (idle-least (λ four. g .counts-idle four i below)) (g .counts-range i below)) i below top)
+      rw (
+        head-sound (l .head) lists (g .head),
+        within-holds 0 maxBlocks (l .maxchunks) zero-le (g .maxchunks-range),
+        counts-hold (l .head .format) (l .head .n) (l .maxchunks) (λ i. pos (countOf lists i))
+            (λ i below. within-holds _ (l .maxchunks) (countOf lists i) (idle-least (λ four. g .counts-idle four i below)) (g .counts-range i below)) i below top,
+      ) (suits-holds f (l .head) (g .head .files) (g .head .file))
 
-  loaded-exactly : Exactly ((not (eqb (l .closed) 0) || not (loadedSound l lists)) ≡ false) (GoodLoaded l lists)
+  loaded-exactly : Exactly ((not (eqb (l .closed) 0) || not (loadedSound f l lists)) ≡ false) (GoodLoaded f l lists)
   loaded-exactly = (
     λ e.
-        let (not-closed, sound) = mark-test (l .closed) (loadedSound l lists) e in
-        let (kept, few, counts) = loaded-holds l lists sound in
-        let head = head-good (l .head) lists kept in
+        let (not-closed, sound) = mark-test (l .closed) (loadedSound f l lists) e in
+        let (kept, few, counts) = loaded-holds f l lists sound in
+        let head = head-good (l .head) lists f (loaded-suits f l lists sound) kept in
         record {
           not-closed = not-closed;
           head = head;
           maxchunks-range = few;
           counts-range = λ i b. counts i b .1;
           counts-idle = λ four i b. least-idle (counts i b .0) four;
-          greatest = counts-greatest (l .head .format) (l .head .n) (l .maxchunks) _ (loaded-counts l lists sound) (head .bounds .tasks-range .0);
+          greatest = counts-greatest (l .head .format) (l .head .n) (l .maxchunks) _ (loaded-counts f l lists sound) (head .bounds .tasks-range .0);
         },
-    λ g. mark-passes (l .closed) (loadedSound l lists) (g .not-closed) (loaded-sound g),
+    λ g. mark-passes (l .closed) (loadedSound f l lists) (g .not-closed) (loaded-sound g),
   )
 
 -- ---- an answer by the three tests and what follows them
@@ -207,8 +222,8 @@ record-judged closed sound h lists m image table rest s each =
 
 pub session-judged : (st : State) (rest : List Test) → Each (λ t. Other (t .number)) rest → SessionJudged st (firstFailing (sessionTests st ++ rest))
 unfolding sessionTests
-session-judged st rest = record-judged _ _ _ _ _ _ _ rest (session-exactly (st .session) (st .lists))
+session-judged st rest = record-judged _ _ _ _ _ _ _ rest (session-exactly (st .file) (st .session) (st .lists))
 
 pub loaded-judged : (c : Container) (rest : List Test) → Each (λ t. Other (t .number)) rest → LoadedJudged c (firstFailing (loadedTests c ++ rest))
 unfolding loadedTests
-loaded-judged c rest = record-judged _ _ _ _ _ _ _ rest (loaded-exactly (c .loaded) (c .lists))
+loaded-judged c rest = record-judged _ _ _ _ _ _ _ rest (loaded-exactly (c .file) (c .loaded) (c .lists))

@@ -58,7 +58,7 @@ unfolding allBelow anyBelow sumBelow greatestBelow joinBelow flatten splice form
     startTests fieldTests fixedTests rankTests requestedTests lastTests restTests meta1Tests countIn valuesIn countTests greatestTest valueTest valueTests countsTests meta2Tests meta2Bytes loadedIn listsIn loadTests loadRefusal loadFault checkAnswer loadAnswer loadTable loadedTests readTests chunksUsed writtenIn
     chunkRefusal totalOf totalAnswer readRefusal orderTable byteTable totalsOf loaded rest containerLine lineOf lineTable
 text-tables = (
-  (refl, (refl, (refl, (refl, (refl, (refl, (refl, (refl, (refl, (refl, (refl, (refl, tt)))))))))))),
+  (refl, (refl, (refl, (refl, (refl, (refl, (refl, (refl, (refl, (refl, (refl, (refl, (refl, (refl, (refl, (refl, tt)))))))))))))))),
   (refl, (refl, (refl, (refl, (refl, tt))))),
   (refl, (refl, (refl, (refl, (refl, (refl, tt)))))),
 )
@@ -98,7 +98,7 @@ pub too-long : (st : State) (q : Request) → firstFailing (sessionTests st) ≡
     → capacityOf st q < length (q .bytes) → writeRefusal st q ≡ 15
 too-long st q passes task long = answer-long st q passes task long
 
-pub tally-too-long : (p : Terms) (a : Fed) (x : Tally) → isTask (p .n) (a .task) ≡ true → p .c (a .task) < a .L
+pub tally-too-long : (p : Terms) (a : Fed) (x : Tally) → p .named (a .task) ≡ true → p .c (a .task) < a .L
     → answerTo (outcome p a x) ≡ 15
 unfolding outcome
 tally-too-long p a x task long = simp (task, ne-eqb (a .L) 0 (λ e. omega arith), lt-ltb _ _ long)

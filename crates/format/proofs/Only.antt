@@ -13,6 +13,7 @@ use Rattle.format.specs.Layout.{meta1End, meta2End}
 use Rattle.format.proofs.Power.{blocksize-facts, power-of-two}
 use Rattle.format.specs.Meta1
 use Rattle.format.specs.Meta2
+use Rattle.format.specs.declared.head.File.{File}
 use Rattle.format.specs.Record.{isBig, holds, meta2At, endAt}
 use Rattle.format.specs.Judge.{bigIn, tasksIn, maxchunksIn, headIn, rankIn, sizeIn, meta2In, countIn}
 use Rattle.format.proofs.Rules.{ranks-differ, counts-within, counts-greatest, values-used, values-unused}
@@ -40,8 +41,8 @@ contentsIn image = record {
       λ k i. natural (Meta2.valueField (bigIn image) (meta2Bytes image) (tasksIn image) (Meta2.valueIndex (tasksIn image) k i));
 }
 
-module _ (image : List ℕ) (first : Meta1Holds image (length image)) where
-  abbrev front : FrontHolds image (length image)
+module _ {f : File} (image : List ℕ) (first : Meta1Holds f image (length image)) where
+  abbrev front : FrontHolds f image (length image)
   front = first .front
 
   bounds-in : InBounds (contentsIn image .blocksize) (tasksIn image) (rankIn image) (sizeIn image)
@@ -60,7 +61,7 @@ module _ (image : List ℕ) (first : Meta1Holds image (length image)) where
         sizes-range = λ i l. (size-in front i l .1, size-in front i l .2);
       }
 
-  has-meta1 : HasMeta1 image (contentsIn image)
+  has-meta1 : HasMeta1 f image (contentsIn image)
   unfolding meta1End tasksIn maxchunksIn rankIn sizeIn headIn meta2In meta2At
   has-meta1 =
       record {
@@ -135,7 +136,7 @@ module _ (image : List ℕ) (first : Meta1Holds image (length image)) where
       others-unused = λ i k l u h. rw part-in (values-unused _ _ _ _ _ values-in i k l h u);
     }
 
-pub only : (image : List ℕ) (cells : ℕ) → loadRefusal image cells ≡ 0 → (c : IsContainer image) × (c .says .n * c .says .maxchunks ≤ cells)
-only image cells e =
-    let h = load-holds image cells e in
+pub only : (f : File) (image : List ℕ) (cells : ℕ) → loadRefusal f image cells ≡ 0 → (c : IsContainer f image) × (c .says .n * c .says .maxchunks ≤ cells)
+only f image cells e =
+    let h = load-holds f image cells e in
     (record { says = contentsIn image; first = has-meta1 image (h .first); second = has-meta2 image (h .first) (h .second) }, h .table-long)

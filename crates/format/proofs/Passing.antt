@@ -143,6 +143,11 @@ module _ (closed : ℕ) (sound : Bool) (h : Head) (lists : List ℕ) (m : ℕ) (
   unfolding recordTests
   record-numbered = omega arith
 
+  pub record-sound : firstFailing (recordTests closed sound h lists m image table) ≡ 0 → sound ≡ true
+  unfolding recordTests
+  record-sound e =
+      not-false _ (or-right (not (eqb closed 0)) _ (none-fails (recordTests closed sound h lists m image table) record-numbered e .0))
+
   pub record-passed : (sound ≡ true → SoundNumbers h lists m) → firstFailing (recordTests closed sound h lists m image table) ≡ 0
       → Passed h lists m image table
   unfolding recordTests tooShort endAt

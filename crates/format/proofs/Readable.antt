@@ -8,12 +8,12 @@ use Rattle.endian.proofs.Signed.{within-facts}
 use Rattle.format.specs.Limits.{maxSize, maxBlocks, Sound, maxTasks}
 use Rattle.format.specs.Refusals.{firstFailing}
 use Rattle.format.specs.Meta2.{valueIndex}
-use Rattle.format.specs.Record.{allLists, sizesOf, sizeOf, holds, startOf, recordTests, entry, countAt}
+use Rattle.format.specs.Record.{allLists, sizesOf, sizeOf, holds, startOf, recordTests, entry, countAt, fileIn}
 use Rattle.format.proofs.Refusals.{Numbered, both-pass, none-fails}
 use Rattle.format.specs.Reads.{Container, loadedTests, readTests, chunksUsed, writtenIn, chunkRefusal}
 use Rattle.format.specs.Passed.{Readable}
 use Rattle.format.proofs.Passing.{passed-sound, holds-small, count-few, cell-listed, chunk-inside, cell-range}
-use Rattle.format.proofs.LoadedRecords.{loaded-numbered, loaded-passed}
+use Rattle.format.proofs.LoadedRecords.{loaded-numbered, loaded-passed, loaded-file}
 use Rattle.format.proofs.Stripes.{count-at}
 
 pub read-numbered : (c : Container) (task : ℕ) → Numbered (readTests c task)
@@ -34,6 +34,15 @@ module _ (c : Container) (task : ℕ) (long : length (c .lists) ≡ allLists) wh
   chunk-readable chunk e =
       let (all, last) = both-pass (readTests c task) _ (read-numbered c task) e in
       (readable all, within-facts 1 (chunksUsed c task) chunk (not-false _ (none-fails _ (omega arith, tt) last .0)))
+
+-- the file that the call means is then the one that the record says it is
+pub read-file : (c : Container) (task : ℕ) → firstFailing (readTests c task) ≡ 0 → fileIn (c .loaded .head) ≡ c .file
+unfolding readTests
+read-file c task e = loaded-file c (both-pass (loadedTests c) _ (loaded-numbered c) e .0)
+
+pub chunk-file : (c : Container) (task chunk : ℕ) → chunkRefusal c task chunk ≡ 0 → fileIn (c .loaded .head) ≡ c .file
+unfolding chunkRefusal
+chunk-file c task chunk e = read-file c task (both-pass (readTests c task) _ (read-numbered c task) e .0)
 
 module _ {c : Container} {task : ℕ} (r : Readable c task) where
   pub read-sound : Sound (c .loaded .head .blocksize) (c .loaded .head .n) (sizesOf (c .lists))

@@ -155,11 +155,11 @@ module _ (h : Head) (rank size : ℕ → ℕ) (prefix : List ℕ) (image : List 
   pub tasks-back : h .n < 2 ^ 31 → Meta1.tasksField (isBig h) image ≡ pos (h .n)
   tasks-back l = field 6 24 4 (pos (h .n)) _ refl refl (lit< tt) l
 
-  pub files-back : Meta1.filesField (isBig h) image ≡ pos Meta1.fileCount
-  files-back = field 7 28 4 (pos Meta1.fileCount) _ refl refl (lit< tt) (lit< tt)
+  pub files-back : h .files < 2 ^ 31 → Meta1.filesField (isBig h) image ≡ pos (h .files)
+  files-back l = field 7 28 4 (pos (h .files)) _ refl refl (lit< tt) l
 
-  pub file-number-back : Meta1.fileNumberField (isBig h) image ≡ pos Meta1.fileNumber
-  file-number-back = field 8 32 4 (pos Meta1.fileNumber) _ refl refl (lit< tt) (lit< tt)
+  pub file-number-back : h .file < 2 ^ 31 → Meta1.fileNumberField (isBig h) image ≡ pos (h .file)
+  file-number-back l = field 8 32 4 (pos (h .file)) _ refl refl (lit< tt) l
 
   pub rank-back : (i : ℕ) → i < h .n → rank i < 2 ^ 63 → Meta1.rankField (isBig h) image i ≡ pos (rank i)
   rank-back = listed 12 Meta1.fixedLength rank _ refl refl

@@ -150,7 +150,7 @@ module _ (st : State) where
         let fields = length-last (isBig h) m (meta2At h (sizeOf (st .lists)) m) in
         (omega (arith, meta2-inside, second), (omega (arith, meta2-inside, fields-before, fields), tt))
 
-    accepted-close-few : byteStores (closingStores h (st .lists) m (st .table)) ≤ length (st .image)
+    pub accepted-close-few : byteStores (closingStores h (st .lists) m (st .table)) ≤ length (st .image)
     accepted-close-few = omega (arith, closing-count h (st .lists) m (st .table), fields-before, meta2-inside)
 
   refused-close : 0 < closeRefusal st → closeStores st ≡ []
@@ -198,7 +198,7 @@ module _ (st : State) (q : Request) where
 
   pub found-stored : (b : ℕ) → takesBytes st q ≡ true
       → writeFound st q b
-      ≡ stateOf (st .session) (stored st q .lists) (found b (st .image) (store (target st q) (q .bytes) ∷ [])) (stored st q .table)
+      ≡ stateOf (st .file) (st .session) (stored st q .lists) (found b (st .image) (store (target st q) (q .bytes) ∷ [])) (stored st q .table)
   unfolding writeFound writeStores afterWrite stored
   found-stored b e = rw e
 
@@ -240,8 +240,8 @@ module _ (st : State) (q : Request) where
   write-whole b l = go (takesBytes st q)
     where
       go : (t : Bool)
-          → stateOf (cond t (stored st q) st .session) (cond t (stored st q) st .lists) (found b (st .image) (cond t (store (target st q) (q .bytes) ∷ []) []))
+          → stateOf (st .file) (cond t (stored st q) st .session) (cond t (stored st q) st .lists) (found b (st .image) (cond t (store (target st q) (q .bytes) ∷ []) []))
           (cond t (stored st q) st .table)
           ≡ cond t (stored st q) st
-      go true = ap (λ (bytes : List ℕ). stateOf (stored st q .session) (stored st q .lists) (splice (st .image) (target st q) bytes) (stored st q .table)) (take-all b (q .bytes) l)
+      go true = ap (λ (bytes : List ℕ). stateOf (st .file) (stored st q .session) (stored st q .lists) (splice (st .image) (target st q) bytes) (stored st q .table)) (take-all b (q .bytes) l)
       go false = refl

@@ -9,9 +9,10 @@ use lib.ListN.{length}
 use Rattle.format.specs.Limits.{maxBlocks}
 use Rattle.format.specs.Layout.{dataStart, globalskip, capacity}
 use Rattle.format.specs.declared.head.Head.{Head}
+use Rattle.format.specs.declared.head.File.{File}
 use Rattle.format.specs.Meta1.{prefixLength}
 use Rattle.format.specs.Meta2.{valueIndex, unused}
-use Rattle.format.specs.Record.{entry, cell, rankOf, sizeOf, countOf}
+use Rattle.format.specs.Record.{entry, cell, filesOf, fileOf, rankOf, sizeOf, countOf}
 use Rattle.format.specs.declared.session.Session.{Session}
 use Rattle.format.specs.Open.{Opening}
 use Rattle.format.specs.declared.loaded.Loaded.{Loaded}
@@ -51,24 +52,26 @@ pub record GoodOpening (o : Opening) (image : List ℕ) (table : List ℤ) : Typ
 
 -- ---- a record
 
--- its head, its ranks and its sizes
-pub record GoodHead (h : Head) (lists : List ℕ) : Type 0 where
+-- its head, its ranks and its sizes, in a call that means this file
+pub record GoodHead (f : File) (h : Head) (lists : List ℕ) : Type 0 where
+  pub files : h .files ≡ filesOf f
+  pub file : h .file ≡ fileOf f
   pub order : IsOrder (h .order)
   pub format : IsFormat (h .format)
   pub bounds : InBounds (h .blocksize) (h .n) (rankOf lists) (sizeOf lists)
 
 -- "a session's counts are at most K", and in version 4 at least 1
-pub record GoodSession (s : Session) (lists : List ℕ) : Type 0 where
+pub record GoodSession (f : File) (s : Session) (lists : List ℕ) : Type 0 where
   pub not-closed : s .closed ≡ 0
-  pub head : GoodHead (s .head) lists
+  pub head : GoodHead f (s .head) lists
   pub planned-range : (1 ≤ s .planned) × (s .planned ≤ maxBlocks)
   pub counts-range : (i : ℕ) → i < s .head .n → countOf lists i ≤ s .planned
   pub counts-idle : s .head .format ≡ 4 → (i : ℕ) → i < s .head .n → 1 ≤ countOf lists i
 
 -- "a loaded record's greatest count is its maxchunks", and in version 4 each is at least 1
-pub record GoodLoaded (l : Loaded) (lists : List ℕ) : Type 0 where
+pub record GoodLoaded (f : File) (l : Loaded) (lists : List ℕ) : Type 0 where
   pub not-closed : l .closed ≡ 0
-  pub head : GoodHead (l .head) lists
+  pub head : GoodHead f (l .head) lists
   pub maxchunks-range : l .maxchunks ≤ maxBlocks
   pub counts-range : (i : ℕ) → i < l .head .n → countOf lists i ≤ l .maxchunks
   pub counts-idle : l .head .format ≡ 4 → (i : ℕ) → i < l .head .n → 1 ≤ countOf lists i
@@ -92,13 +95,13 @@ pub record Judged (sound long agreed : Type 0) (r : ℕ) : Type 0 where
 abbrev pub SessionJudged : State → ℕ → Type 0
 SessionJudged st =
     let h = st .session .head in
-    Judged (GoodSession (st .session) (st .lists))
+    Judged (GoodSession (st .file) (st .session) (st .lists))
     (LongEnough (h .blocksize) (h .n) (sizeOf (st .lists)) (st .session .planned) (st .image) (st .table))
     (GoodCells h (st .lists) (st .session .planned) (st .table))
 
 abbrev pub LoadedJudged : Container → ℕ → Type 0
 LoadedJudged c =
     let h = c .loaded .head in
-    Judged (GoodLoaded (c .loaded) (c .lists))
+    Judged (GoodLoaded (c .file) (c .loaded) (c .lists))
     (LongEnough (h .blocksize) (h .n) (sizeOf (c .lists)) (c .loaded .maxchunks) (c .image) (c .table))
     (GoodCells h (c .lists) (c .loaded .maxchunks) (c .table))

@@ -4,6 +4,7 @@ use mathlib.Core.List.{List, [], _∷_, _++_}
 use Prim.Native.Nat.{ℕ}
 use lib.IntN.{pos, negsuc}
 use lib.ListN.{take, drop, replicate}
+use Rattle.format.specs.declared.head.File.the-variants.{Single}
 use Rattle.format.specs.Session.{State}
 use Rattle.format.specs.Open.{Opening, opened}
 use Rattle.format.specs.Write.{writes}
@@ -15,6 +16,7 @@ use Rattle.format.specs.Numbers.{Row, row, plan, two, write, twoFirst, t
 abbrev pub abPlan : ℕ → Opening
 abPlan order =
     record {
+      file = Single;
       plan = record { order = order; version = negsuc 1; patch = pos 7; format = 3; blocksize = 512; planned = 3 };
       ranks = 5 ∷ 258 ∷ [];
       sizes = two;

@@ -26,11 +26,15 @@ closeRefusal st = firstFailing (sessionTests st)
 
 -- "Closing writes META2, maxchunks and start_of_varheader, changes no other byte": META2 of these counts and cells, in the head's order; "META2, then
 -- maxchunks, then start_of_varheader" (W-212), of which the last two stand next to each other
-unfoldable pub closingStores : Head → List ℕ → ℕ → List ℤ → List Store
-closingStores h lists maxchunks table =
+abbrev pub meta2Store : Head → List ℕ → ℕ → List ℤ → Store
+meta2Store h lists maxchunks table =
     store (meta2At h (sizeOf lists) maxchunks) (meta2 (isBig h) (h .n) maxchunks (countOf lists) (cell table))
-    ∷ store (lastAt (h .n)) (lastFields (isBig h) maxchunks (meta2At h (sizeOf lists) maxchunks))
-    ∷ []
+
+abbrev pub lastStore : Head → List ℕ → ℕ → Store
+lastStore h lists maxchunks = store (lastAt (h .n)) (lastFields (isBig h) maxchunks (meta2At h (sizeOf lists) maxchunks))
+
+unfoldable pub closingStores : Head → List ℕ → ℕ → List ℤ → List Store
+closingStores h lists maxchunks table = meta2Store h lists maxchunks table ∷ lastStore h lists maxchunks ∷ []
 
 module _ (st : State) where
   -- maxchunks of this session: the chunks in use, of the task that has most

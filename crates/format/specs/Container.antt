@@ -12,8 +12,10 @@ use Rattle.format.specs.Layout.{meta1End, capacity, requested, meta2Star
 use Rattle.format.specs.Meta1
 use Rattle.format.specs.Meta2
 use Rattle.format.specs.declared.head.Head.{Head}
+use Rattle.format.specs.declared.head.File.{File}
+use Rattle.format.specs.declared.head.File.the-variants.{Single}
 use Rattle.format.specs.declared.loaded.Loaded.{Loaded}
-use Rattle.format.specs.Record.{entry, orderOf, cell}
+use Rattle.format.specs.Record.{entry, orderOf, filesOf, fileOf, cell}
 use Rattle.format.specs.Meta2.{valueIndex, unused}
 
 -- what a container says: its byte order, and the numbers that its fields hold
@@ -44,8 +46,8 @@ pub record InBounds (blocksize n : ℕ) (rank size : ℕ → ℕ) : Type 0 where
 abbrev pub IsFormat : ℕ → Type 0
 IsFormat format = (format ≡ 3) ⊎ (format ≡ 4)
 
--- META1 of an image holds these contents, and they keep its rules
-pub record HasMeta1 (image : List ℕ) (c : Contents) : Type 0 where
+-- META1 of an image holds these contents, as the file that is meant, and they keep its rules
+pub record HasMeta1 (f : File) (image : List ℕ) (c : Contents) : Type 0 where
   pub bounds : InBounds (c .blocksize) (c .n) (c .rank) (c .size)
   pub long : meta1End (c .n) ≤ length image
   pub magic-is : take (length Meta1.magic) image ≡ Meta1.magic
@@ -56,8 +58,8 @@ pub record HasMeta1 (image : List ℕ) (c : Contents) : Type 0 where
   pub format-known : IsFormat (c .format)
   pub blocksize-is : Meta1.blocksizeField (c .big) image ≡ pos (c .blocksize)
   pub tasks-are : Meta1.tasksField (c .big) image ≡ pos (c .n)
-  pub files-are : Meta1.filesField (c .big) image ≡ pos Meta1.fileCount
-  pub file-number-is : Meta1.fileNumberField (c .big) image ≡ pos Meta1.fileNumber
+  pub files-are : Meta1.filesField (c .big) image ≡ pos (filesOf f)
+  pub file-number-is : Meta1.fileNumberField (c .big) image ≡ pos (fileOf f)
   pub ranks-are : (i : ℕ) → i < c .n → Meta1.rankField (c .big) image i ≡ pos (c .rank i)
   pub sizes-are : (i : ℕ) → i < c .n → Meta1.sizeField (c .big) image (c .n) i ≡ pos (c .size i)
   pub maxchunks-is : Meta1.maxchunksField (c .big) image (c .n) ≡ pos (c .maxchunks)
@@ -85,18 +87,18 @@ pub record Meta2With (holds : ℕ → ℕ → ℕ) (image : List ℕ) (c : Conte
 abbrev pub HasMeta2 : List ℕ → Contents → Type 0
 HasMeta2 = Meta2With capacity
 
-pub record ContainerWith (holds : ℕ → ℕ → ℕ) (image : List ℕ) : Type 0 where
+pub record ContainerWith (holds : ℕ → ℕ → ℕ) (f : File) (image : List ℕ) : Type 0 where
   pub says : Contents
-  pub first : HasMeta1 image says
+  pub first : HasMeta1 f image says
   pub second : Meta2With holds image says
 
--- a container: what the loader has to accept, given a table that is long enough, and nothing else
-abbrev pub IsContainer : List ℕ → Type 0
+-- a container, which is a single file, or a file of a pair: what the loader has to accept, given a table that is long enough, and nothing else
+abbrev pub IsContainer : File → List ℕ → Type 0
 IsContainer = ContainerWith capacity
 
 -- what was one before W-202, when fileformat_version was 3 only
 pub record WasContainer (image : List ℕ) : Type 0 where
-  pub was : ContainerWith requested image
+  pub was : ContainerWith requested Single image
   pub version-3 : was .says .format ≡ 3
 
 -- ---- what a load hands back of it
@@ -112,24 +114,26 @@ pub record Lists (n : ℕ) (rank size count : ℕ → ℕ) (lists : List ℕ) : 
   pub as-many : length lists ≡ 3 * maxTasks
 
 -- the numbers of a record's head, one by one
-pub record HeadSays (h : Head) (order : ℕ) (version patch : ℤ) (format blocksize n : ℕ) : Type 0 where
+pub record HeadSays (h : Head) (order : ℕ) (version patch : ℤ) (format blocksize n files file : ℕ) : Type 0 where
   pub order-is : h .order ≡ order
   pub version-is : h .version ≡ version
   pub patch-is : h .patch ≡ patch
   pub format-is : h .format ≡ format
   pub blocksize-is : h .blocksize ≡ blocksize
   pub tasks-are : h .n ≡ n
+  pub files-are : h .files ≡ files
+  pub file-is : h .file ≡ file
 
 -- a loaded record says what the container says, and is not marked closed
-pub record Recorded (c : Contents) (l : Loaded) (lists : List ℕ) : Type 0 where
-  pub head : HeadSays (l .head) (orderOf (c .big)) (c .version) (c .patch) (c .format) (c .blocksize) (c .n)
+pub record Recorded (f : File) (c : Contents) (l : Loaded) (lists : List ℕ) : Type 0 where
+  pub head : HeadSays (l .head) (orderOf (c .big)) (c .version) (c .patch) (c .format) (c .blocksize) (c .n) (filesOf f) (fileOf f)
   pub maxchunks : l .maxchunks ≡ c .maxchunks
   pub not-closed : l .closed ≡ 0
   pub listed : Lists (c .n) (c .rank) (c .size) (c .count) lists
 
 -- so do the cells of the table; those after them are as they came
-pub record Says (c : Contents) (l : Loaded) (lists : List ℕ) (before after : List ℤ) : Type 0 where
-  pub recorded : Recorded c l lists
+pub record Says (f : File) (c : Contents) (l : Loaded) (lists : List ℕ) (before after : List ℤ) : Type 0 where
+  pub recorded : Recorded f c l lists
   pub used-cells : (i k : ℕ) → i < c .n → k < c .count i → cell after (valueIndex (c .n) k i) ≡ pos (c .written k i)
   pub unused-cells : (i k : ℕ) → i < c .n → c .count i ≤ k → k < c .maxchunks → cell after (valueIndex (c .n) k i) ≡ unused
   pub other-cells : (j : ℕ) → c .n * c .maxchunks ≤ j → cell after j ≡ cell before j

@@ -6,6 +6,7 @@ use Prim.Native.Nat.{ℕ, _+_}
 use lib.IntN.{ℤ, pos, negsuc}
 use lib.ListN.{length, getD, take, replicate}
 use Rattle.lists.specs.Splice.{splice}
+use Rattle.format.specs.declared.head.File.the-variants.{Single}
 use Rattle.format.specs.Meta1.{formatField, meta1}
 use Rattle.format.specs.Meta2.{unused, meta2}
 use Rattle.format.specs.Record.{entry, countOf, headOf, orderOf}
@@ -39,7 +40,7 @@ idleFresh big =
 -- the container that it leaves, as bytes in little order: of a format, with a count and a value for task 2, which wrote nothing
 abbrev pub idleBytes : ℕ → ℕ → ℤ → List ℕ
 idleBytes format count value =
-    meta1 (headOf 0 (pos 1) (pos 7) format 512 2) (λ i. i) (entry two) [] 1 3072
+    meta1 (headOf 0 (pos 1) (pos 7) format 512 2 1 0) (λ i. i) (entry two) [] 1 3072
     ++ replicate 416 0
     ++ (replicate 300 1 ++ replicate 200 2 ++ (3 ∷ replicate 1035 0))
     ++ meta2 false 2 1 (entry (1 ∷ count ∷ [])) (λ j. getD (pos 501 ∷ value ∷ []) j (pos 0))
@@ -58,7 +59,7 @@ idleCounts format =
 
 abbrev pub idleSmallest : List ℕ
 idleSmallest =
-    meta1 (headOf 0 (pos 1) (pos 7) 4 512 1) (λ i. 0) (λ i. 1) [] 1 2048
+    meta1 (headOf 0 (pos 1) (pos 7) 4 512 1 1 0) (λ i. 0) (λ i. 1) [] 1 2048
     ++ (replicate 944 0 ++ meta2 false 1 1 (λ i. 1) (λ j. pos 0))
 
 abbrev pub idleNothing : State
@@ -97,24 +98,24 @@ idleTable =
     (15 ∷ 0 ∷ 15 ∷ 0 ∷ 15 ∷ 16 ∷ 15 ∷ 15 ∷ 0 ∷ 15 ∷ 0 ∷ 15 ∷ 16 ∷ 15 ∷ 1028 ∷ 1024 ∷ [])
     ∷ row (oneAnswersIn 4 500 (512 ∷ 512 ∷ 1 ∷ [])) (0 ∷ 0 ∷ 16 ∷ 0 ∷ 0 ∷ 16 ∷ 2050 ∷ 1024 ∷ [])
     -- the smallest container of version 4, 2,064 bytes, is what a session that wrote nothing leaves; `0 1 1 0`, and `0 2 1 501 0`
-    ∷ row (length idleSmallest ∷ closeAnswer idleNothing .length ∷ loadRefusal idleSmallest 1 ∷ []) (2064 ∷ 2064 ∷ 0 ∷ [])
+    ∷ row (length idleSmallest ∷ closeAnswer idleNothing .length ∷ loadRefusal Single idleSmallest 1 ∷ []) (2064 ∷ 2064 ∷ 0 ∷ [])
     ∷ row (closeImage idleNothing) idleSmallest
     ∷ row (lineOf idleSmallest) (48 ∷ 32 ∷ 49 ∷ 32 ∷ 49 ∷ 32 ∷ 48 ∷ [])
     ∷ row (lineOf idleTwo) (48 ∷ 32 ∷ 50 ∷ 32 ∷ 49 ∷ 32 ∷ 53 ∷ 48 ∷ 49 ∷ 32 ∷ 48 ∷ [])
     -- "There the only new 13 is a count of 0": P12's container as one of version 4, and one whose maxchunks is 0; the same two of version 3
     ∷ row
-    (loadRefusal (idleBytes 4 0 unused) 4
-    ∷ loadRefusal (imageIn 4 smallest) 4
-    ∷ loadRefusal (idleBytes 3 0 unused) 4
-    ∷ loadRefusal smallest 4
+    (loadRefusal Single (idleBytes 4 0 unused) 4
+    ∷ loadRefusal Single (imageIn 4 smallest) 4
+    ∷ loadRefusal Single (idleBytes 3 0 unused) 4
+    ∷ loadRefusal Single smallest 4
     ∷ [])
     (13 ∷ 13 ∷ 0 ∷ 0 ∷ [])
     -- a count of 1 with 0 bytes is no error in version 3: both containers of version 4 as ones of it
-    ∷ row (loadRefusal (idleBytes 3 1 (pos 0)) 4 ∷ loadRefusal (imageIn 3 idleSmallest) 1 ∷ []) (0 ∷ 0 ∷ [])
+    ∷ row (loadRefusal Single (idleBytes 3 1 (pos 0)) 4 ∷ loadRefusal Single (imageIn 3 idleSmallest) 1 ∷ []) (0 ∷ 0 ∷ [])
     -- "take 3 or 4, else refusal 4": at loading, also where the number's other bytes are not 0, and at opening
     ∷ row
-    (map (λ (format : ℕ). loadRefusal (imageIn format idleSmallest) 1) (0 ∷ 2 ∷ 3 ∷ 4 ∷ 5 ∷ 255 ∷ [])
-    ++ (loadRefusal (splice idleSmallest 17 (1 ∷ [])) 1 ∷ loadRefusal (splice idleSmallest 19 (128 ∷ [])) 1 ∷ []))
+    (map (λ (format : ℕ). loadRefusal Single (imageIn format idleSmallest) 1) (0 ∷ 2 ∷ 3 ∷ 4 ∷ 5 ∷ 255 ∷ [])
+    ++ (loadRefusal Single (splice idleSmallest 17 (1 ∷ [])) 1 ∷ loadRefusal Single (splice idleSmallest 19 (128 ∷ [])) 1 ∷ []))
     (4 ∷ 4 ∷ 0 ∷ 0 ∷ 4 ∷ 4 ∷ 4 ∷ 4 ∷ [])
     ∷ row (map openIn (0 ∷ 2 ∷ 3 ∷ 4 ∷ 5 ∷ 260 ∷ [])) (4 ∷ 4 ∷ 0 ∷ 0 ∷ 4 ∷ 4 ∷ [])
     ∷ []

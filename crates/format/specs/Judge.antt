@@ -12,12 +12,13 @@ use Rattle.endian.specs.Signed.{within, natural}
 use Rattle.format.specs.Limits.{maxTasks, minBlocksize, maxBlocksize, maxSize, maxBlocks, maxRank, plainFormat, idleFormat, formatRule, blocksizeRule, tasksRule, rankRule, maxchunksRule}
 use Rattle.format.specs.Layout.{meta1End}
 use Rattle.format.specs.declared.head.Head.{Head}
+use Rattle.format.specs.declared.head.File.{File}
 use Rattle.format.specs.declared.fault.Fault.{Fault}
 use Rattle.format.specs.Refusals.{Test, testAt, faultOf}
 use Rattle.format.specs.Kinds
 use Rattle.format.specs.Meta1
 use Rattle.format.specs.Meta2
-use Rattle.format.specs.Record.{isBig, orderOf, holds, meta2At, endAt, headOf}
+use Rattle.format.specs.Record.{isBig, orderOf, filesOf, fileOf, holds, meta2At, endAt, headOf}
 
 -- a field has this one value
 abbrev pub is : ℕ → ℤ → Bool
@@ -57,7 +58,7 @@ module _ (xs : List ℕ) where
   unfoldable pub headIn : Head
   headIn =
       headOf (orderOf bigIn) (Meta1.versionField bigIn xs) (Meta1.patchField bigIn xs) (natural (Meta1.formatField bigIn xs))
-      (natural (Meta1.blocksizeField bigIn xs)) tasksIn
+      (natural (Meta1.blocksizeField bigIn xs)) tasksIn (natural (Meta1.filesField bigIn xs)) (natural (Meta1.fileNumberField bigIn xs))
 
   -- of task i + 1
   unfoldable pub rankIn : ℕ → ℕ
@@ -78,9 +79,9 @@ module _ (xs : List ℕ) where
       ∷ testAt 3 (endFault len Meta1.fixedLength) (ltb len Meta1.fixedLength)
       ∷ []
 
-  -- "4, 5, 6, 7, 3 (full)": in 7 nfiles is judged before filenumber
-  unfoldable pub fieldTests : ℕ → List Test
-  fieldTests len =
+  -- "4, 5, 6, 7, 3 (full)", of the file that the call means: in 7 nfiles is judged before filenumber
+  unfoldable pub fieldTests : File → ℕ → List Test
+  fieldTests f len =
       let format = Meta1.formatField bigIn xs in
       let blocksize = Meta1.blocksizeField bigIn xs in
       let tasks = Meta1.tasksField bigIn xs in
@@ -89,14 +90,14 @@ module _ (xs : List ℕ) where
       testAt 4 (numberFault Kinds.format Meta1.formatAt format plainFormat idleFormat) (not (formatRule format))
       ∷ testAt 5 (numberFault Kinds.blocksize Meta1.blocksizeAt blocksize minBlocksize maxBlocksize) (not (blocksizeRule blocksize))
       ∷ testAt 6 (numberFault Kinds.tasks Meta1.tasksAt tasks 1 maxTasks) (not (tasksRule tasks))
-      ∷ testAt 7 (numberFault Kinds.files Meta1.filesAt files Meta1.fileCount Meta1.fileCount) (not (is Meta1.fileCount files))
-      ∷ testAt 7 (numberFault Kinds.fileNumber Meta1.fileNumberAt fileNumber Meta1.fileNumber Meta1.fileNumber) (not (is Meta1.fileNumber fileNumber))
+      ∷ testAt 7 (numberFault Kinds.files Meta1.filesAt files (filesOf f) (filesOf f)) (not (is (filesOf f) files))
+      ∷ testAt 7 (numberFault Kinds.fileNumber Meta1.fileNumberAt fileNumber (fileOf f) (fileOf f)) (not (is (fileOf f) fileNumber))
       ∷ testAt 3 (endFault len (meta1End tasksIn)) (ltb len (meta1End tasksIn))
       ∷ []
 
   -- those of the fields that stand in every META1 at the same place
-  unfoldable pub fixedTests : ℕ → List Test
-  fixedTests len = startTests len ++ fieldTests len
+  unfoldable pub fixedTests : File → ℕ → List Test
+  fixedTests f len = startTests len ++ fieldTests f len
 
   -- "8": each rank in turn, so that "For a repeated rank it is the later of the pair, taking the earliest such one"
   unfoldable pub rankTests : List Test
@@ -127,8 +128,8 @@ module _ (xs : List ℕ) where
   unfoldable pub restTests : ℕ → List Test
   restTests len = rankTests ++ (requestedTests ++ lastTests len)
 
-  unfoldable pub meta1Tests : ℕ → List Test
-  meta1Tests len = fixedTests len ++ restTests len
+  unfoldable pub meta1Tests : File → ℕ → List Test
+  meta1Tests f len = fixedTests f len ++ restTests len
 
 -- ---- what META2's part says, for the head, the sizes and the maxchunks of META1
 

@@ -45,3 +45,16 @@ count = 14
 
 abbrev pub value : ℕ
 value = 15
+
+-- of the mapping of a pair (W-204): mapping_size, and of an entry the file that it names, the task, and the rank that this task carries
+abbrev pub mappingSize : ℕ
+mappingSize = 16
+
+abbrev pub entryFile : ℕ
+entryFile = 17
+
+abbrev pub entryTask : ℕ
+entryTask = 18
+
+abbrev pub entryRank : ℕ
+entryRank = 19

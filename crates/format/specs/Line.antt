@@ -7,6 +7,7 @@ use lib.Dec.{ltb, eqb}
 use lib.IntN.{ℤ, pos}
 use lib.ListN.{length, replicate}
 use Rattle.lists.specs.Below.{listBelow}
+use Rattle.format.specs.declared.head.File.the-variants.{Single}
 use Rattle.format.specs.declared.loaded.LoadAnswer.{LoadAnswer}
 use Rattle.format.specs.Load.{loadAnswer, loadTable}
 use Rattle.format.specs.Reads.{Container, containerOf, totalAnswer}
@@ -59,7 +60,7 @@ module _ (input : List ℕ) where
   blank = replicate cells (pos 0)
 
   unfoldable pub loaded : LoadAnswer
-  loaded = loadAnswer input blank
+  loaded = loadAnswer Single input blank
 
   -- the numbers after the first
   unfoldable pub rest : List ℕ
@@ -67,7 +68,7 @@ module _ (input : List ℕ) where
       cond (eqb (loaded .refusal) 0)
       (loaded .loaded .head .n
       ∷ loaded .loaded .maxchunks
-      ∷ totalsOf (containerOf (loaded .loaded) (loaded .lists) input (loadTable input blank)))
+      ∷ totalsOf (containerOf Single (loaded .loaded) (loaded .lists) input (loadTable Single input blank)))
       []
 
   unfoldable pub containerLine : List ℕ

@@ -5,16 +5,19 @@ use Prim.Native.Nat.{ℕ}
 use lib.IntN.{pos}
 use Rattle.format.specs.Limits.{maxchunksRule}
 use Rattle.format.specs.declared.head.Head.{Head}
+use Rattle.format.specs.declared.head.File.{File}
 use Rattle.format.specs.Meta2.{countsRule}
-use Rattle.format.specs.Record.{countOf, headSound, noHead}
+use Rattle.format.specs.Record.{countOf, suits, headSound, noHead}
 use Rattle.format.specs.declared.loaded.Loaded.{Loaded}
 
--- "A record is unsound if its fields break the rules above (..; a loaded record's greatest count is its maxchunks)"
-unfoldable pub loadedSound : Loaded → List ℕ → Bool
-loadedSound l lists =
+-- "A record is unsound if its fields break the rules above (..; a loaded record's greatest count is its maxchunks)"; "17 also where they do not suit
+-- the call" (W-204)
+unfoldable pub loadedSound : File → Loaded → List ℕ → Bool
+loadedSound f l lists =
     headSound (l .head) lists
     && maxchunksRule (pos (l .maxchunks))
     && countsRule (l .head .format) (l .head .n) (l .maxchunks) (λ i. pos (countOf lists i))
+    && suits f (l .head)
 
 -- ---- the place where it is made
 

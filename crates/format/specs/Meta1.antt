@@ -15,15 +15,9 @@ use Rattle.format.specs.Record.{isBig}
 abbrev pub magic : List ℕ
 magic = 115 ∷ 105 ∷ 111 ∷ 110 ∷ []
 
--- nfiles and filenumber have one value each; the order is told by the number 1
+-- the order is told by the number 1
 abbrev pub orderNumber : ℕ
 orderNumber = 1
-
-abbrev pub fileCount : ℕ
-fileCount = 1
-
-abbrev pub fileNumber : ℕ
-fileNumber = 0
 
 -- where the filename prefix stands, its bytes, and those before the ranks
 abbrev pub prefixAt : ℕ
@@ -134,8 +128,8 @@ frontFields h rank size prefix =
     ∷ signedDigits big 4 (pos (h .format))
     ∷ signedDigits big 4 (pos (h .blocksize))
     ∷ signedDigits big 4 (pos (h .n))
-    ∷ signedDigits big 4 (pos fileCount)
-    ∷ signedDigits big 4 (pos fileNumber)
+    ∷ signedDigits big 4 (pos (h .files))
+    ∷ signedDigits big 4 (pos (h .file))
     ∷ signedDigits big 8 (pos 0)
     ∷ signedDigits big 8 (pos 0)
     ∷ padded prefix

@@ -6,6 +6,7 @@ use Prim.Native.Nat.{ℕ, _+_}
 use lib.IntN.{pos, negsuc}
 use lib.ListN.{take, drop, replicate}
 use Rattle.lists.specs.Stores.{store, byteStores, found}
+use Rattle.format.specs.declared.head.File.the-variants.{Single}
 use Rattle.format.specs.Layout.{meta2Start, meta2Length}
 use Rattle.format.specs.declared.head.Head.{Head}
 use Rattle.format.specs.Meta1.{lastAt, lastFields, meta1}
@@ -31,11 +32,11 @@ edges image = take 3 image ++ (take 1 (drop 1535 image) ++ take 1 (drop 1536 ima
 
 -- what a load gives, with a table of 6 cells, after so many stores of the opening over the container that its own close left
 abbrev pub openingGives : ℕ → List ℕ → List ℕ
-openingGives order = map (λ (b : ℕ). loadRefusal (openFound (twoPlanned order) (closeImage (twoDone order)) (replicate 6 (pos 0)) b) 6)
+openingGives order = map (λ (b : ℕ). loadRefusal Single (openFound (twoPlanned order) (closeImage (twoDone order)) (replicate 6 (pos 0)) b) 6)
 
 -- and after so many stores of the close
 abbrev pub closingGives : State → List ℕ → List ℕ
-closingGives st = map (λ (b : ℕ). loadRefusal (closeFound st b) 6)
+closingGives st = map (λ (b : ℕ). loadRefusal Single (closeFound st b) 6)
 
 -- META1's last two fields, and the first count of META2, after so many stores of the close
 abbrev pub closingParts : ℕ → List ℕ
@@ -49,13 +50,13 @@ cutWrite = writeFound (twoOpened 0) (write 300 1) 2
 -- place: 1096 is start_of_varheader, and 1104 the image's end, where the field is right and META2 is missing
 
 abbrev pub farHead : Bool → Head
-farHead big = headOf (orderOf big) (pos 1) (pos 7) 3 512 1
+farHead big = headOf (orderOf big) (pos 1) (pos 7) 3 512 1 1 0
 
 abbrev pub farAt : Bool → ℕ → List ℕ
 farAt big b = found b (meta1 (farHead big) (λ i. 0) (λ i. 64_512) [] 0 0) (store (lastAt 1) (lastFields big 1 66_048) ∷ [])
 
 abbrev pub farGives : Bool → ℕ → List ℕ
-farGives big b = loadRefusal (farAt big b) 1 ∷ loadFault (farAt big b) 1 .place ∷ []
+farGives big b = loadRefusal Single (farAt big b) 1 ∷ loadFault Single (farAt big b) 1 .place ∷ []
 
 unfoldable pub momentTable : List Row
 momentTable =
@@ -76,7 +77,7 @@ momentTable =
     ∷ row (openingGives 0 (0 ∷ 1 ∷ 1120 ∷ 1536 ∷ 1537 ∷ 1538 ∷ [])) (0 ∷ 1 ∷ 1 ∷ 1 ∷ 10 ∷ 10 ∷ [])
     ∷ row (openingGives 1 (0 ∷ 1 ∷ 1120 ∷ 1536 ∷ 1537 ∷ [])) (0 ∷ 1 ∷ 1 ∷ 1 ∷ 10 ∷ [])
     -- a cut write: two of its bytes, but the count and the cell of the whole
-    ∷ row (take 3 (drop 1536 (cutWrite .image)) ++ (countOf (cutWrite .lists) 0 ∷ loadRefusal (cutWrite .image) 6 ∷ [])) (1 ∷ 1 ∷ 0 ∷ 1 ∷ 10 ∷ [])
+    ∷ row (take 3 (drop 1536 (cutWrite .image)) ++ (countOf (cutWrite .lists) 0 ∷ loadRefusal Single (cutWrite .image) 6 ∷ [])) (1 ∷ 1 ∷ 0 ∷ 1 ∷ 10 ∷ [])
     ∷ record { computed = take 2 (cutWrite .table); stated = pos 300 ∷ negsuc 0 ∷ [] }
     -- "Closing writes META2, then maxchunks, then start_of_varheader"
     ∷ row (closingParts 0) (replicate 14 0)

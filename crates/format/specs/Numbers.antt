@@ -9,6 +9,7 @@ use lib.IntN.{ℤ, pos, negsuc}
 use lib.ListN.{length, getD, take, replicate}
 use Rattle.lists.specs.Below.{listBelow}
 use Rattle.endian.specs.Signed.{signedAt}
+use Rattle.format.specs.declared.head.File.the-variants.{Single}
 use Rattle.format.specs.Layout.{meta1End, dataStart, extended, capacity, requested, globalskip, chunkStart, imageNeeded}
 use Rattle.lists.specs.Splice.{splice}
 use Rattle.format.specs.declared.head.Head.{Head}
@@ -45,6 +46,7 @@ Agrees (r ∷ rows) = (r .computed ≡ r .stated) × Agrees rows
 abbrev pub planIn : ℕ → ℕ → ℕ → List ℕ → ℕ → Opening
 planIn format order blocksize sizes planned =
     record {
+      file = Single;
       plan = record { order = order; version = pos 1; patch = pos 7; format = format; blocksize = blocksize; planned = planned };
       ranks = listBelow (length sizes) (λ i. i);
       sizes = sizes;
@@ -120,7 +122,7 @@ oneAnswersIn format size lengths =
     let p = termsOf (onePlan format size) in
     let byTally = answers p initial (fed requests) in
     refusals (openedZeros (onePlan format size) (imageNeeded 512 1 (λ i. size) 2) 2) requests
-    ++ (byTally ++ (2 * (held 1 (fed requests) byTally + 1) ∷ p .K * p .c 1 ∷ []))
+    ++ (byTally ++ (2 * (held 1 (fed requests) byTally + 1) ∷ p .K 1 * p .c 1 ∷ []))
 
 abbrev pub oneAnswers : ℕ → List ℕ → List ℕ
 oneAnswers = oneAnswersIn 3
@@ -192,29 +194,30 @@ withSize c = openRefusal (plan 0 512 (c ∷ []) 1) (2 * 1_073_741_824) 1
 abbrev pub withRanks : List ℕ → ℕ
 withRanks ranks =
     let o = plan 0 512 (500 ∷ 500 ∷ []) 1 in
-    openRefusal (record { plan = o .plan; ranks = ranks; sizes = o .sizes; prefix = o .prefix }) 65_536 2
+    openRefusal (record { file = o .file; plan = o .plan; ranks = ranks; sizes = o .sizes; prefix = o .prefix }) 65_536 2
 
 -- ---- what a refusal hands back: the numbers of the record, then its lists
 
 abbrev pub recordOf : Head → ℕ → ℕ → List ℕ → List ℤ
 recordOf h chunks closed lists =
-    (pos (h .order) ∷ h .version ∷ h .patch ∷ pos (h .format) ∷ pos (h .blocksize) ∷ pos (h .n) ∷ pos chunks ∷ pos closed ∷ []) ++ map pos lists
+    (pos (h .order) ∷ h .version ∷ h .patch ∷ pos (h .format) ∷ pos (h .blocksize) ∷ pos (h .n) ∷ pos (h .files) ∷ pos (h .file) ∷ pos chunks ∷ pos closed ∷ [])
+    ++ map pos lists
 
 abbrev pub refusedLoad : List ℤ
-refusedLoad = let a = loadAnswer [] [] in recordOf (a .loaded .head) (a .loaded .maxchunks) (a .loaded .closed) (a .lists)
+refusedLoad = let a = loadAnswer Single [] [] in recordOf (a .loaded .head) (a .loaded .maxchunks) (a .loaded .closed) (a .lists)
 
 abbrev pub refusedOpening : List ℤ
 refusedOpening =
     let a = openAnswer (plan 2 512 two 3) [] [] in recordOf (a .session .head) (a .session .planned) (a .session .closed) (a .lists)
 
 abbrev pub zerosMarked : List ℤ
-zerosMarked = map pos ((0 ∷ 0 ∷ 0 ∷ 0 ∷ 0 ∷ 0 ∷ 0 ∷ 1 ∷ []) ++ replicate 192 0)
+zerosMarked = map pos ((0 ∷ 0 ∷ 0 ∷ 0 ∷ 0 ∷ 0 ∷ 0 ∷ 0 ∷ 0 ∷ 1 ∷ []) ++ replicate 192 0)
 
 -- ---- what a chunk holds, by a blocksize and a requested size: the number itself, then 13 of META2, 19's rule of the cells, and the tally's answer, of
 -- just as many bytes and of one more
 
 abbrev pub headWith : ℕ → Head
-headWith b = headOf 0 (pos 1) (pos 7) 3 b 1
+headWith b = headOf 0 (pos 1) (pos 7) 3 b 1 1 0
 
 abbrev pub filledBy : ℕ → ℕ → ℕ → List ℕ
 filledBy b size bytes =
@@ -236,14 +239,14 @@ twoImage order bytes = take bytes (closeImage (twoDone order))
 -- the container that the session of P12 gave while a chunk held its requested size only: the last byte at 3072, in chunk 2, and META2 at 4608
 abbrev pub storedTwo : ℕ → List ℕ
 storedTwo order =
-    meta1 (headOf order (pos 1) (pos 7) 3 512 2) (λ i. i) (entry two) [] 2 4608
+    meta1 (headOf order (pos 1) (pos 7) 3 512 2 1 0) (λ i. i) (entry two) [] 2 4608
     ++ replicate 416 0
     ++ (replicate 300 1 ++ replicate 200 2 ++ replicate 1036 0)
     ++ (3 ∷ replicate 1535 0)
     ++ meta2 (eqb order 1) 2 2 (entry (2 ∷ 0 ∷ [])) (λ j. getD (pos 500 ∷ negsuc 0 ∷ pos 1 ∷ negsuc 0 ∷ []) j (pos 0))
 
 abbrev pub loadedHere : List ℕ → Container
-loadedHere image = loadedFrom image (replicate 4 (pos 0))
+loadedHere image = loadedFrom Single image (replicate 4 (pos 0))
 
 -- what it says: the refusal number, n, maxchunks and each task's total; then library version, patch level and fileformat_version, as the record has
 -- it and as it stands
@@ -251,7 +254,7 @@ abbrev pub said : List ℕ → List ℤ
 said image =
     let c = loadedHere image in
     map pos (
-    loadRefusal image 4
+    loadRefusal Single image 4
     ∷ c .loaded .head .n
     ∷ c .loaded .maxchunks
     ∷ totalAnswer c 1 .bytes
@@ -280,13 +283,13 @@ whole image =
 -- ---- the numbers of loading: a container of one task that wrote nothing, whole, cut short, and with one byte changed
 abbrev pub smallest : List ℕ
 smallest =
-    meta1 (headOf 0 (pos 1) (pos 7) 3 512 1) (λ i. 0) (λ i. 1) [] 0 1536 ++ (replicate 432 0 ++ replicate 8 0)
+    meta1 (headOf 0 (pos 1) (pos 7) 3 512 1 1 0) (λ i. 0) (λ i. 1) [] 0 1536 ++ (replicate 432 0 ++ replicate 8 0)
 
 abbrev pub cutTo : ℕ → ℕ
-cutTo bytes = loadRefusal (take bytes smallest) 0
+cutTo bytes = loadRefusal Single (take bytes smallest) 0
 
 abbrev pub changed : ℕ → ℕ → ℕ
-changed at byte = loadRefusal (splice smallest at (byte ∷ [])) 0
+changed at byte = loadRefusal Single (splice smallest at (byte ∷ [])) 0
 
 -- ---- the ends of what 4 bytes in little order and 8 bytes in big order hold
 abbrev pub signedEnds : List ℕ
@@ -317,7 +320,7 @@ otherTable =
           ++ (pos 0 ∷ pos 2 ∷ pos 2 ∷ pos 501 ∷ pos 0 ∷ pos 1 ∷ pos 7 ∷ pos 3 ∷ pos 3 ∷ []);
     }
     ∷ row
-    (loadRefusal (twoImage 1 3103) 4 ∷ loadRefusal (twoImage 0 3104) 1 ∷ loadRefusal (take 4655 (storedTwo 1)) 4 ∷ loadRefusal (storedTwo 0) 3 ∷ [])
+    (loadRefusal Single (twoImage 1 3103) 4 ∷ loadRefusal Single (twoImage 0 3104) 1 ∷ loadRefusal Single (take 4655 (storedTwo 1)) 4 ∷ loadRefusal Single (storedTwo 0) 3 ∷ [])
     (12 ∷ 18 ∷ 12 ∷ 18 ∷ [])
     -- what a chunk holds: of the least size, of one more and one less than a multiple of the blocksize, and of a multiple, which holds what it did
     ∷ row
@@ -363,9 +366,9 @@ otherTable =
     (1 ∷ 2 ∷ 4 ∷ 5 ∷ 6 ∷ 7 ∷ 7 ∷ 7 ∷ 8 ∷ 9 ∷ 10 ∷ 11 ∷ 12 ∷ 13 ∷ [])
     -- "A chunk not used by a task has the value -1", and not 0: the second task, chunk 1; and 512 and 513 bytes in the first task's chunk 1
     ∷ row
-    (loadRefusal (splice (storedTwo 0) 4632 (replicate 8 0)) 4
-    ∷ loadRefusal (splice (storedTwo 0) 4624 (0 ∷ 2 ∷ [])) 4
-    ∷ loadRefusal (splice (storedTwo 0) 4624 (1 ∷ 2 ∷ [])) 4
+    (loadRefusal Single (splice (storedTwo 0) 4632 (replicate 8 0)) 4
+    ∷ loadRefusal Single (splice (storedTwo 0) 4624 (0 ∷ 2 ∷ [])) 4
+    ∷ loadRefusal Single (splice (storedTwo 0) 4624 (1 ∷ 2 ∷ [])) 4
     ∷ [])
     (13 ∷ 0 ∷ 13 ∷ [])
     -- "signed two's complement": the greatest and the least number of 4 and of 8 bytes

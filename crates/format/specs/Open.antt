@@ -10,6 +10,7 @@ use Rattle.lists.specs.Stores.{Store, applied, found}
 use Rattle.format.specs.Limits.{formatRule, blocksizeRule, tasksRule, ranksRule, sizesRule, plannedRule}
 use Rattle.format.specs.Layout.{meta2End}
 use Rattle.format.specs.declared.head.Head.{Head}
+use Rattle.format.specs.declared.head.File.{File}
 use Rattle.format.specs.declared.session.Session.{Session}
 use Rattle.format.specs.declared.session.Needed.{Needed}
 use Rattle.format.specs.declared.session.Opened.{Opened}
@@ -17,18 +18,19 @@ use Rattle.format.specs.declared.session.Plan.{Plan}
 use Rattle.format.specs.Refusals.{Test, test, firstFailing}
 use Rattle.format.specs.Meta1.{prefixLength, openingStores}
 use Rattle.format.specs.Meta2.{unused, leastCount}
-use Rattle.format.specs.Record.{entry, listsOf, noLists, isOrder, tooShort, headOf}
+use Rattle.format.specs.Record.{entry, listsOf, noLists, isOrder, filesOf, fileOf, tooShort, headOf}
 use Rattle.format.specs.Session.{State, stateOf, sessionOf, noSession}
 
--- what opening is given beside the image and the table
+-- what opening is given beside the image and the table, with the file that the call means
 pub record Opening : Type 0 where
+  pub file : File
   pub plan : Plan
   pub ranks : List ℕ
   pub sizes : List ℕ
   pub prefix : List ℕ
 
-abbrev pub openingOf : Plan → List ℕ → List ℕ → List ℕ → Opening
-openingOf plan ranks sizes prefix = record { plan = plan; ranks = ranks; sizes = sizes; prefix = prefix }
+abbrev pub openingOf : File → Plan → List ℕ → List ℕ → List ℕ → Opening
+openingOf file plan ranks sizes prefix = record { file = file; plan = plan; ranks = ranks; sizes = sizes; prefix = prefix }
 
 -- "2, 5, 6, 21", and 4 "right after 2" (W-209): of the order, the format, the blocksize, and how many ranks, sizes and bytes of the prefix there are
 unfoldable pub shapeTests : ℕ → ℕ → ℕ → ℕ → ℕ → ℕ → List Test
@@ -76,7 +78,8 @@ module _ (o : Opening) where
       (planTests ++ (test 18 (tooShort (o .plan .blocksize) tasks (entry (o .sizes)) (o .plan .planned) imageLength cells) ∷ []))
 
   unfoldable pub openHead : Head
-  openHead = headOf (o .plan .order) (o .plan .version) (o .plan .patch) (o .plan .format) (o .plan .blocksize) tasks
+  openHead =
+      headOf (o .plan .order) (o .plan .version) (o .plan .patch) (o .plan .format) (o .plan .blocksize) tasks (filesOf (o .file)) (fileOf (o .file))
 
   -- not marked closed
   unfoldable pub openSession : Session
@@ -112,4 +115,4 @@ module _ (o : Opening) where
 
     -- the record, the image and the table as an opening hands them back
     abbrev pub opened : State
-    opened = stateOf (openAnswer .session) (openAnswer .lists) openImage openTable
+    opened = stateOf (o .file) (openAnswer .session) (openAnswer .lists) openImage openTable

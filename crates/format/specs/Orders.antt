@@ -7,6 +7,8 @@ use Prim.Native.Nat.{ℕ, _+_}
 use lib.IntN.{ℤ, pos, negsuc}
 use lib.ListN.{take, drop, replicate}
 use Rattle.lists.specs.Splice.{splice}
+use Rattle.format.specs.declared.head.File.{File}
+use Rattle.format.specs.declared.head.File.the-variants.{Single, First, Second}
 use Rattle.format.specs.declared.head.Head.{Head}
 use Rattle.format.specs.Meta1.{meta1}
 use Rattle.format.specs.Meta2.{meta2}
@@ -32,7 +34,7 @@ change at byte = record { at = at; byte = byte }
 
 abbrev pub one : List ℕ
 one =
-    meta1 (headOf 0 (pos 1) (pos 7) 3 512 1) (λ i. 0) (λ i. 10) [] 1 2048
+    meta1 (headOf 0 (pos 1) (pos 7) 3 512 1 1 0) (λ i. 0) (λ i. 10) [] 1 2048
     ++ (replicate 944 0 ++ meta2 false 1 1 (λ i. 1) (λ j. pos 10))
 
 -- one byte for each test but 3 and 18: 1, 2, 4, 5, 6, 7, 8, 9, 10, 11, 12, 13
@@ -59,7 +61,7 @@ spoilt (f ∷ fs) image = splice (spoilt fs image) (f .at) (f .byte ∷ [])
 
 -- the container with so many of the faults mended, cut to so many bytes, with a table of so many cells
 abbrev pub loadOf : ℕ → ℕ → ℕ → ℕ
-loadOf mended bytes cells = loadRefusal (take bytes (spoilt (drop mended faults) one)) cells
+loadOf mended bytes cells = loadRefusal Single (take bytes (spoilt (drop mended faults) one)) cells
 
 -- ---- opening: an order, a format, a blocksize, ranks, sizes, how many bytes of a prefix, K, and the lengths of the image and the table
 
@@ -67,6 +69,7 @@ abbrev pub openOf : ℕ → ℕ → ℕ → List ℕ → List ℕ → ℕ → �
 openOf order format blocksize ranks sizes prefix planned =
     openRefusal
     (record {
+      file = Single;
       plan = record { order = order; version = pos 1; patch = pos 7; format = format; blocksize = blocksize; planned = planned };
       ranks = ranks;
       sizes = sizes;
@@ -76,13 +79,13 @@ openOf order format blocksize ranks sizes prefix planned =
 -- ---- writes, closes and reads of a record of one task that wrote 10 bytes in one chunk: its mark, the bytes of its image, its table
 
 abbrev pub oneHead : Head
-oneHead = headOf 0 (pos 1) (pos 7) 3 512 1
+oneHead = headOf 0 (pos 1) (pos 7) 3 512 1 1 0
 
 abbrev pub oneList : List ℕ
 oneList = listsOf 1 (λ i. 0) (λ i. 10) (λ i. 1)
 
 abbrev pub sessionAt : ℕ → ℕ → List ℤ → State
-sessionAt closed bytes table = stateOf (sessionOf oneHead 1 closed) oneList (replicate bytes 0) table
+sessionAt closed bytes table = stateOf Single (sessionOf oneHead 1 closed) oneList (replicate bytes 0) table
 
 -- of a task, so many bytes
 abbrev pub writeOf : State → ℕ → ℕ → ℕ
@@ -93,10 +96,10 @@ closeOf st = closeAnswer st .refusal
 
 -- a chunk, and a read from a place
 abbrev pub chunkAt : ℕ → ℕ → List ℤ → ℕ → ℕ → ℕ
-chunkAt closed bytes table = chunkRefusal (containerOf (loadedOf oneHead 1 closed) oneList (replicate bytes 0) table)
+chunkAt closed bytes table = chunkRefusal (containerOf Single (loadedOf oneHead 1 closed) oneList (replicate bytes 0) table)
 
 abbrev pub readAt : ℕ → ℕ → List ℤ → ℕ → ℕ → ℕ
-readAt closed bytes table = readRefusal (containerOf (loadedOf oneHead 1 closed) oneList (replicate bytes 0) table)
+readAt closed bytes table = readRefusal (containerOf Single (loadedOf oneHead 1 closed) oneList (replicate bytes 0) table)
 
 -- ---- what test 17 judges: an order, a format, a blocksize, n, two ranks, two sizes, two counts, K or maxchunks, and the closed mark
 
@@ -126,17 +129,17 @@ numbers order format blocksize n ranks sizes counts chunks closed =
     }
 
 abbrev pub headAt : Numbers17 → Head
-headAt r = headOf (r .order) (pos 1) (pos 7) (r .format) (r .blocksize) (r .n)
+headAt r = headOf (r .order) (pos 1) (pos 7) (r .format) (r .blocksize) (r .n) 1 0
 
 abbrev pub listsAt : Numbers17 → List ℕ
 listsAt r = listsOf 2 (entry (r .ranks)) (entry (r .sizes)) (entry (r .counts))
 
 -- the record with no image and no table: sound, it is refused with 18
 abbrev pub sessionNumber : Numbers17 → ℕ
-sessionNumber r = closeOf (stateOf (sessionOf (headAt r) (r .chunks) (r .closed)) (listsAt r) [] [])
+sessionNumber r = closeOf (stateOf Single (sessionOf (headAt r) (r .chunks) (r .closed)) (listsAt r) [] [])
 
 abbrev pub loadedNumber : Numbers17 → ℕ
-loadedNumber r = totalAnswer (containerOf (loadedOf (headAt r) (r .chunks) (r .closed)) (listsAt r) [] []) 1 .refusal
+loadedNumber r = totalAnswer (containerOf Single (loadedOf (headAt r) (r .chunks) (r .closed)) (listsAt r) [] []) 1 .refusal
 
 -- what both kinds of record can break: the order, the format, the blocksize, n, a rank, two ranks, a size, a count, in version 4 a count of 0, the
 -- chunks, the closed mark
@@ -180,6 +183,17 @@ chunksNone = numbers 0 3 512 2 (0 ∷ 1 ∷ []) (500 ∷ 600 ∷ []) (0 ∷ 0 �
 -- n is at least 1, whatever else is right
 abbrev pub tasksNone : Numbers17
 tasksNone = numbers 0 3 512 0 [] [] [] 0 0
+
+-- ---- nfiles and filenumber (W-204): what a load gives of an image that says these, and 17 of a session and of a loaded record, sound in all else, in a
+-- call that means this file
+
+abbrev pub suited : File → ℕ → ℕ → List ℕ
+suited f files file =
+    let h = headOf 0 (pos 1) (pos 7) 3 512 1 files file in
+    loadRefusal f (splice (splice one 28 (files ∷ [])) 32 (file ∷ [])) 1
+    ∷ closeOf (stateOf f (sessionOf h 1 0) oneList [] [])
+    ∷ totalAnswer (containerOf f (loadedOf h 1 0) oneList [] []) 1 .refusal
+    ∷ []
 
 unfoldable pub orderTable : List Row
 orderTable =
@@ -290,6 +304,11 @@ orderTable =
     ∷ row (map sessionNumber broken) (replicate 18 17)
     ∷ row (map loadedNumber broken) (replicate 18 17)
     ∷ row (map sessionNumber sound ++ map loadedNumber sound) (replicate 6 18)
+    -- 7 and 17 for another file than the one that the call means
+    ∷ row (suited Single 1 0 ++ suited First 2 0 ++ suited Second 2 1) (0 ∷ 18 ∷ 18 ∷ 0 ∷ 18 ∷ 18 ∷ 0 ∷ 18 ∷ 18 ∷ [])
+    ∷ row (suited Single 0 0 ++ suited Single 2 0 ++ suited Single 1 1) (7 ∷ 17 ∷ 17 ∷ 7 ∷ 17 ∷ 17 ∷ 7 ∷ 17 ∷ 17 ∷ [])
+    ∷ row (suited First 1 0 ++ suited First 3 0 ++ suited First 2 1) (7 ∷ 17 ∷ 17 ∷ 7 ∷ 17 ∷ 17 ∷ 7 ∷ 17 ∷ 17 ∷ [])
+    ∷ row (suited Second 1 1 ++ suited Second 2 0 ++ suited Second 2 2) (7 ∷ 17 ∷ 17 ∷ 7 ∷ 17 ∷ 17 ∷ 7 ∷ 17 ∷ 17 ∷ [])
     ∷ row
     (sessionNumber chunksOver ∷ loadedNumber chunksOver ∷ sessionNumber chunksNone ∷ loadedNumber chunksNone ∷ loadedNumber tasksNone ∷ [])
     (18 ∷ 17 ∷ 17 ∷ 18 ∷ 17 ∷ [])

@@ -7,6 +7,7 @@ use lib.IntN.{ℤ, pos, negsuc}
 use lib.ListN.{length, take, drop, replicate}
 use Rattle.lists.specs.Splice.{splice}
 use Rattle.endian.specs.Signed.{signedDigits}
+use Rattle.format.specs.declared.head.File.the-variants.{Single}
 use Rattle.format.specs.declared.fault.Fault.{Fault}
 use Rattle.format.specs.Refusals.{firstFailing, firstFault}
 use Rattle.format.specs.Meta1.{meta1}
@@ -23,7 +24,7 @@ shown refusal f =
 
 -- of a load of an image with a table of so many cells
 abbrev pub foundIn : List ℕ → ℕ → List ℤ
-foundIn image cells = shown (loadRefusal image cells) (loadFault image cells)
+foundIn image cells = shown (loadRefusal Single image cells) (loadFault Single image cells)
 
 -- as it is expected
 abbrev pub broken : ℕ → ℕ → ℕ → ℕ → ℕ → ℤ → ℤ → ℤ → List ℤ
@@ -45,7 +46,7 @@ big image cells expected = record { computed = foundIn (image true) cells; state
 -- META1 of a format, with ranks, sizes, maxchunks and start_of_varheader
 abbrev pub first : ℕ → List ℕ → List ℕ → ℕ → ℕ → Bool → List ℕ
 first format ranks sizes maxchunks start order =
-    meta1 (headOf (orderOf order) (pos 1) (pos 7) format 512 (length ranks)) (entry ranks) (entry sizes) [] maxchunks start
+    meta1 (headOf (orderOf order) (pos 1) (pos 7) format 512 (length ranks) 1 0) (entry ranks) (entry sizes) [] maxchunks start
 
 -- META2: numbers of 8 bytes, the counts and then the values
 abbrev pub second : List ℤ → Bool → List ℕ
@@ -79,7 +80,7 @@ threeTasks order = threeFirst order ++ replicate 424 0
 -- META2 alone, of two tasks whose chunks hold 512 and 1,024 bytes: a format, maxchunks, where it starts, and its numbers
 abbrev pub alone : ℕ → ℕ → ℕ → List ℤ → Bool → List ℤ
 alone format maxchunks start numbers order =
-    let tests = meta2Tests (headOf (orderOf order) (pos 1) (pos 7) format 512 2) (entry (10 ∷ 600 ∷ [])) maxchunks start (second numbers order) in
+    let tests = meta2Tests (headOf (orderOf order) (pos 1) (pos 7) format 512 2 1 0) (entry (10 ∷ 600 ∷ [])) maxchunks start (second numbers order) in
     shown (firstFailing tests) (firstFault tests)
 
 abbrev pub aloneBoth : ℕ → ℕ → ℕ → List ℤ → List ℤ → Row

@@ -9,6 +9,7 @@ use lib.ListN.{length, take, drop}
 use Rattle.lists.specs.Below.{sumBelow, joinBelow}
 use Rattle.endian.specs.Signed.{within, natural}
 use Rattle.lists.specs.Splice.{splice}
+use Rattle.format.specs.declared.head.File.{File}
 use Rattle.format.specs.declared.loaded.Loaded.{Loaded}
 use Rattle.format.specs.declared.loaded.Part.{Part}
 use Rattle.format.specs.declared.loaded.ByteCount.{ByteCount}
@@ -18,25 +19,26 @@ use Rattle.format.specs.Record.{cell, sizeOf, countOf, startOf, recordTe
 use Rattle.format.specs.Loaded.{loadedSound}
 use Rattle.format.specs.Load.{loadAnswer, loadTable}
 
--- a loaded record with its lists, its image and its table
+-- a loaded record with its lists, its image and its table, and the file that the calls mean
 pub record Container : Type 0 where
+  pub file : File
   pub loaded : Loaded
   pub lists : List ℕ
   pub image : List ℕ
   pub table : List ℤ
 
-abbrev pub containerOf : Loaded → List ℕ → List ℕ → List ℤ → Container
-containerOf loaded lists image table = record { loaded = loaded; lists = lists; image = image; table = table }
+abbrev pub containerOf : File → Loaded → List ℕ → List ℕ → List ℤ → Container
+containerOf file loaded lists image table = record { file = file; loaded = loaded; lists = lists; image = image; table = table }
 
 -- the container that a load hands back
-abbrev pub loadedFrom : List ℕ → List ℤ → Container
-loadedFrom image table =
-    containerOf (loadAnswer image table .loaded) (loadAnswer image table .lists) image (loadTable image table)
+abbrev pub loadedFrom : File → List ℕ → List ℤ → Container
+loadedFrom f image table =
+    containerOf f (loadAnswer f image table .loaded) (loadAnswer f image table .lists) image (loadTable f image table)
 
 -- "17, 18, 19"
 unfoldable pub loadedTests : Container → List Test
 loadedTests c =
-    recordTests (c .loaded .closed) (loadedSound (c .loaded) (c .lists)) (c .loaded .head) (c .lists) (c .loaded .maxchunks) (c .image)
+    recordTests (c .loaded .closed) (loadedSound (c .file) (c .loaded) (c .lists)) (c .loaded .head) (c .lists) (c .loaded .maxchunks) (c .image)
     (c .table)
 
 -- the task is counted from 1

@@ -13,6 +13,8 @@ use Rattle.endian.specs.Signed.{within}
 use Rattle.format.specs.Limits.{maxTasks, formatRule, blocksizeRule, tasksRule, ranksRule, sizesRule}
 use Rattle.format.specs.Layout.{capacity, chunkStart, meta2Start, meta2End}
 use Rattle.format.specs.declared.head.Head.{Head}
+use Rattle.format.specs.declared.head.File.{File}
+use Rattle.format.specs.declared.head.File.the-variants.{Single, First, Second}
 use Rattle.format.specs.Refusals.{Test, test}
 use Rattle.format.specs.Meta2.{valuesRule}
 
@@ -79,6 +81,25 @@ isBig h = eqb (h .order) 1
 abbrev pub orderOf : Bool → ℕ
 orderOf big = cond big 1 0
 
+-- nfiles and filenumber of the file that a call means: "nfiles = 1, filenumber = 0"; "nfiles is then 2, filenumber 0 or 1" (W-204)
+abbrev pub filesOf : File → ℕ
+filesOf Single = 1
+filesOf First = 2
+filesOf Second = 2
+
+abbrev pub fileOf : File → ℕ
+fileOf Single = 0
+fileOf First = 0
+fileOf Second = 1
+
+-- "17 also where they do not suit the call"
+abbrev pub suits : File → Head → Bool
+suits f h = eqb (h .files) (filesOf f) && eqb (h .file) (fileOf f)
+
+-- the file that a record says it is, of those that there are
+unfoldable pub fileIn : Head → File
+fileIn h = cond (eqb (h .files) 1) Single (cond (eqb (h .file) 0) First Second)
+
 -- with the sizes of its tasks
 module _ (h : Head) (size : ℕ → ℕ) where
   -- what a chunk of task i + 1 holds
@@ -113,13 +134,18 @@ tooShort b n size m imageLength cells = ltb imageLength (meta2End b n size m) ||
 unfoldable pub cellsAgree : Head → List ℕ → ℕ → List ℤ → Bool
 cellsAgree h lists m table = valuesRule (h .n) m (holds h (sizeOf lists)) (countOf lists) (cell table)
 
--- "17, 18, 19": what write, close and the reads test of a record, by its mark, whether it is sound, and for m chunks its cells
-unfoldable pub recordTests : ℕ → Bool → Head → List ℕ → ℕ → List ℕ → List ℤ → List Test
-recordTests closed sound h lists m image table =
-    test 17 (not (eqb closed 0) || not sound)
-    ∷ test 18 (tooShort (h .blocksize) (h .n) (sizeOf lists) m (length image) (length table))
+-- "17, 18, 19": what write, close and the reads test of a record: its mark and whether it is sound, then for m chunks what it is lent and its cells
+abbrev pub soundTest : ℕ → Bool → Test
+soundTest closed sound = test 17 (not (eqb closed 0) || not sound)
+
+abbrev pub lentTests : Head → List ℕ → ℕ → List ℕ → List ℤ → List Test
+lentTests h lists m image table =
+    test 18 (tooShort (h .blocksize) (h .n) (sizeOf lists) m (length image) (length table))
     ∷ test 19 (not (cellsAgree h lists m table))
     ∷ []
+
+unfoldable pub recordTests : ℕ → Bool → Head → List ℕ → ℕ → List ℕ → List ℤ → List Test
+recordTests closed sound h lists m image table = soundTest closed sound ∷ lentTests h lists m image table
 
 -- a task number, counted from 1
 abbrev pub isTask : ℕ → ℕ → Bool
@@ -127,10 +153,10 @@ isTask n task = within 1 n (pos task)
 
 -- ---- the place where a head is made
 
-abbrev pub headOf : ℕ → ℤ → ℤ → ℕ → ℕ → ℕ → Head
-headOf order version patch format blocksize n =
-    record { order = order; version = version; patch = patch; format = format; blocksize = blocksize; n = n }
+abbrev pub headOf : ℕ → ℤ → ℤ → ℕ → ℕ → ℕ → ℕ → ℕ → Head
+headOf order version patch format blocksize n files file =
+    record { order = order; version = version; patch = patch; format = format; blocksize = blocksize; n = n; files = files; file = file }
 
 -- the head of "a record of zeros"
 abbrev pub noHead : Head
-noHead = headOf 0 (pos 0) (pos 0) 0 0 0
+noHead = headOf 0 (pos 0) (pos 0) 0 0 0 0 0

@@ -1,23 +1,23 @@
 -- Document 01, "The tally of demand 3": what it is fed, what it keeps of a task (u and w alone), what it answers to each write, and where it puts
 -- each byte. Its rules know nothing of records, images and tables; `termsOf` and `fedOf` say what it is fed.
-use mathlib.Core.Bool.{cond, not, _&&_}
+use mathlib.Core.Bool.{Bool, cond, not, _&&_}
 use mathlib.Core.Path.{_≡_}
 use mathlib.Core.List.{List, [], _∷_, map}
 use Prim.Native.Nat.{ℕ, _+_, _-_, _<_, max}
 use lib.Dec.{ltb, leb, eqb}
-use lib.IntN.{pos}
 use lib.ListN.{length, getD}
-use Rattle.endian.specs.Signed.{within}
 use Rattle.format.specs.Layout.{capacity, chunkStart}
 use Rattle.format.specs.Meta2.{leastCount}
-use Rattle.format.specs.Record.{entry}
+use Rattle.format.specs.Record.{entry, isTask}
 use Rattle.format.specs.Open.{Opening, tasks}
 use Rattle.format.specs.Write.{Request}
 
--- "The tally is fed n, K, each task's c and chunk starts": chunk k of task t starts at `start t k`, both counted from 1
+-- "The tally is fed n, K, each task's c and chunk starts": whether a number names a task, and of each task its K, its c and where chunk k of it
+-- starts, counted from 1. The tasks of a single file are named 1 to n and have one K; those of a pair are named by global rank, and K is their file's
+-- (W-204)
 pub record Terms : Type 0 where
-  pub n : ℕ
-  pub K : ℕ
+  pub named : ℕ → Bool
+  pub K : ℕ → ℕ
   pub c : ℕ → ℕ
   pub start : ℕ → ℕ → ℕ
 
@@ -25,8 +25,8 @@ pub record Terms : Type 0 where
 abbrev pub termsOf : Opening → Terms
 termsOf o =
     record {
-      n = tasks o;
-      K = o .plan .planned;
+      named = isTask (tasks o);
+      K = λ task. o .plan .planned;
       c = λ task. capacity (o .plan .blocksize) (entry (o .sizes) (task - 1));
       start = chunkStart (o .plan .blocksize) (tasks o) (entry (o .sizes));
     }
@@ -56,15 +56,15 @@ pub data Outcome : Type 0 where
   refused : ℕ → Outcome
   empty stays moves : Outcome
 
--- "A task number not in 1..n gives 14. L = 0 gives 0. L over c gives 15. If u is at least 1 and w + L at most c, .. Else, if u is
--- under K, .. Else 16."
+-- "A task number not in 1..n gives 14", which is one that names no task. "L = 0 gives 0. L over c gives 15. If u is at least 1 and w + L at most c,
+-- .. Else, if u is under K, .. Else 16."
 unfoldable pub outcome : Terms → Fed → Tally → Outcome
 outcome p a x =
-    cond (not (within 1 (p .n) (pos (a .task)))) (refused 14)
+    cond (not (p .named (a .task))) (refused 14)
     (cond (eqb (a .L) 0) empty
     (cond (ltb (p .c (a .task)) (a .L)) (refused 15)
     (cond (leb 1 (x .u) && leb (x .w + a .L) (p .c (a .task))) stays
-    (cond (ltb (x .u) (p .K)) moves (refused 16)))))
+    (cond (ltb (x .u) (p .K (a .task))) moves (refused 16)))))
 
 abbrev pub answerTo : Outcome → ℕ
 answerTo (refused number) = number

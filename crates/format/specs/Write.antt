@@ -65,6 +65,7 @@ module _ (st : State) (q : Request) where
   unfoldable pub stored : State
   stored =
       record {
+        file = st .file;
         session = st .session;
         lists = withCount (st .lists) (q .task - 1) (spot .chunk);
         image = splice (st .image) target (q .bytes);
@@ -85,7 +86,7 @@ module _ (st : State) (q : Request) where
   writeStores = cond takesBytes (store target (q .bytes) ∷ []) []
 
   unfoldable pub writeFound : ℕ → State
-  writeFound budget = stateOf (afterWrite .session) (afterWrite .lists) (found budget (st .image) writeStores) (afterWrite .table)
+  writeFound budget = stateOf (st .file) (afterWrite .session) (afterWrite .lists) (found budget (st .image) writeStores) (afterWrite .table)
 
 -- ---- a list of writes, each to what the last one left: the state in the end, and the answers in order
 

@@ -31,7 +31,17 @@ pub const COUNT: u32 = 14;
 
 pub const VALUE: u32 = 15;
 
-// `field` is one of the kinds above; `task` and `chunk` are counted from 1, and 0 where the field is of none. The mark and the order number say
+// Of the mapping of a pair: mapping_size, and of an entry the file that it names, the task, and the rank that this task carries.
+pub const MAPPING_SIZE: u32 = 16;
+
+pub const ENTRY_FILE: u32 = 17;
+
+pub const ENTRY_TASK: u32 = 18;
+
+pub const ENTRY_RANK: u32 = 19;
+
+// `field` is one of the kinds above; `task` and `chunk` are counted from 1, and 0 where the field is of none; an entry of a
+// mapping has its rank and 1 as its task. The mark and the order number say
 // nothing, and so all three numbers are 0 there; an image's end and a table say their length, and both bounds are what is needed. Where nothing is
 // broken, all are 0.
 #[repr(C)]

@@ -30,9 +30,5 @@ pub const PREFIX: usize = 1024;
 // The ranks, numbers of 8 bytes, behind the fields that every META1 has at the same place.
 pub const RANKS_AT: usize = 1076;
 
-// The number that tells the byte order, and the values of nfiles and filenumber.
+// The number that tells the byte order.
 pub const ORDER: u32 = 1;
-
-pub const FILES: u32 = 1;
-
-pub const FILE_NUMBER: u32 = 0;

@@ -9,7 +9,14 @@ pub const COUNTS: usize = 2 * MAX_TASKS;
 
 pub const LISTS: usize = 3 * MAX_TASKS;
 
-// `order` is 0 for little and 1 for big; `format` is fileformat_version.
+// Which physical file of how many a call means: the only one, or the first or the second of a pair (W-204).
+pub enum File {
+    Single,
+    First,
+    Second,
+}
+
+// `order` is 0 for little and 1 for big; `format` is fileformat_version; `files` is nfiles and `file` is filenumber.
 #[repr(C)]
 pub struct Head {
     pub order: u32,
@@ -18,4 +25,6 @@ pub struct Head {
     pub format: u32,
     pub blocksize: u32,
     pub n: u32,
+    pub files: u32,
+    pub file: u32,
 }

@@ -44,3 +44,5 @@ pub const LONG_PREFIX: u32 = 21;
 pub const NO_CHUNK: u32 = 22;
 
 pub const PAST_TOTAL: u32 = 23;
+
+pub const BAD_MAPPING: u32 = 25;

@@ -7,6 +7,7 @@ ghost use lib.IntN.{pos};
 ghost use lib.ListN.{length};
 ghost use Rattle.endian.specs.Signed.{signedAt};
 ghost use Rattle.format.specs.declared.head.Head.{Head};
+ghost use Rattle.format.specs.declared.head.File.{File};
 ghost use Rattle.front.specs.declared.Start.{Start};
 ghost use Rattle.front.specs.declared.Fixed.{Fixed};
 ghost use Rattle.endian.specs.declared.read.Number4.{Number4};
@@ -22,6 +23,7 @@ use endian::read::Number4;
 use format::fault;
 use format::fault::Verdict;
 use format::field;
+use format::head::File;
 use format::head::Head;
 use format::limit;
 use format::refusal;
@@ -144,6 +146,7 @@ fn judge_start(xs: &[u8], len: u64) -> Start
 
 // Tests 4, 5, 6, 7 and again 3: the fixed fields, and that the lists and the last two fields are there.
 fn judge_fields(
+    file: File,
     xs: &[u8],
     len: u64,
     big: bool,
@@ -152,7 +155,7 @@ fn judge_fields(
     n: Number4,
 ) -> Verdict
     requires { ⌜ FieldsRead (now xs) big format blocksize n ⌝ }
-    ensures { λ r. ⌜ r ≡ verdict (fieldTests (now (xs .entry)) len) ⌝ }
+    ensures { λ r. ⌜ r ≡ verdict (fieldTests (now (xs .entry)) file len) ⌝ }
 {
     if !limits::format_ok(format.value) {
         return faults::number4(
@@ -182,12 +185,22 @@ fn judge_fields(
         );
     }
     let files = read::get_u32(xs, field::FILES_AT, big);
-    if files.value != field::FILES {
-        return faults::number4(refusal::BAD_FILES, fault::FILES, files, 1, 1);
+    let nfiles = files::files_of(file);
+    if files.value != nfiles {
+        let needed = nfiles as u64;
+        return faults::number4(refusal::BAD_FILES, fault::FILES, files, needed, needed);
     }
     let number = read::get_u32(xs, field::FILE_NUMBER_AT, big);
-    if number.value != field::FILE_NUMBER {
-        return faults::number4(refusal::BAD_FILES, fault::FILE_NUMBER, number, 0, 0);
+    let filenumber = files::number_of(file);
+    if number.value != filenumber {
+        let needed = filenumber as u64;
+        return faults::number4(
+            refusal::BAD_FILES,
+            fault::FILE_NUMBER,
+            number,
+            needed,
+            needed,
+        );
     }
     let end = layout::meta1_end(n.value);
     if len < end {
@@ -203,10 +216,10 @@ fn no_fixed(verdict: Verdict) -> Fixed
     Fixed { verdict, head }
 }
 
-// Tests 1 to 7 and both of 3, of as many of the first bytes as META1 can have, or of all.
-pub fn judge_fixed(xs: &[u8], len: u64) -> Fixed
+// Tests 1 to 7 and both of 3, of the file that the call means, from as many of the first bytes as META1 can have, or from all.
+pub fn judge_fixed(file: File, xs: &[u8], len: u64) -> Fixed
     requires { ⌜ Covers len (now xs) ⌝ }
-    ensures { λ r. ⌜ r ≡ fixedGives (now (xs .entry)) len ⌝ }
+    ensures { λ r. ⌜ r ≡ fixedGives file (now (xs .entry)) len ⌝ }
 {
     let start = judge_start(xs, len);
     if start.verdict.refusal != 0 {
@@ -216,7 +229,7 @@ pub fn judge_fixed(xs: &[u8], len: u64) -> Fixed
     let format = read::get_u32(xs, field::FORMAT_AT, big);
     let blocksize = read::get_u32(xs, field::BLOCKSIZE_AT, big);
     let n = read::get_u32(xs, field::TASKS_AT, big);
-    let verdict = judge_fields(xs, len, big, format, blocksize, n);
+    let verdict = judge_fields(file, xs, len, big, format, blocksize, n);
     if verdict.refusal != 0 {
         return no_fixed(verdict);
     }
@@ -232,6 +245,8 @@ pub fn judge_fixed(xs: &[u8], len: u64) -> Fixed
             format: format.value,
             blocksize: blocksize.value,
             n: n.value,
+            files: files::files_of(file),
+            file: files::number_of(file),
         },
     }
 }

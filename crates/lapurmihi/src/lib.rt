@@ -3,6 +3,7 @@
 ghost use mathlib.Core.Path.{_≡_};
 ghost use Prim.Native.Nat.{_+_, _≤_};
 ghost use lib.ListN.{length};
+ghost use Rattle.format.specs.declared.head.File.the-variants.{Single};
 ghost use Rattle.format.specs.declared.session.Session.{Session};
 ghost use Rattle.format.specs.declared.session.Plan.{Plan};
 ghost use Rattle.format.specs.declared.session.Needed.{Needed};
@@ -31,11 +32,11 @@ use format::session::Plan;
 use format::session::Session;
 
 // The library's version: 10,000 times the first number, 100 times the second, and the third.
-pub const VERSION: u32 = 401;
+pub const VERSION: u32 = 500;
 
 #[no_mangle]
 pub extern "C" fn lapur_version() -> u32
-    ensures { λ r. ⌜ r ≡ 401 ⌝ }
+    ensures { λ r. ⌜ r ≡ 500 ⌝ }
 {
     VERSION
 }
@@ -49,7 +50,7 @@ pub extern "C" fn lapur_chunk_size(size: u64, blocksize: u32) -> ByteCount
 
 #[no_mangle]
 pub extern "C" fn lapur_needs(plan: Plan, ranks: &[u64], sizes: &[u64], prefix: &[u8]) -> Needed
-    ensures { λ r. ⌜ r ≡ needsAnswer (openingOf plan (now (ranks .entry)) (now (sizes .entry)) (now (prefix .entry))) ⌝ }
+    ensures { λ r. ⌜ r ≡ needsAnswer (openingOf Single plan (now (ranks .entry)) (now (sizes .entry)) (now (prefix .entry))) ⌝ }
 {
     container::needs(plan, ranks, sizes, prefix)
 }
@@ -63,9 +64,9 @@ pub extern "C" fn lapur_open(
     image: &mut [u8],
     table: &mut [i64],
 ) -> Opened
-    ensures { λ r. ⌜ r ≡ openAnswer (openingOf plan (now (ranks .entry)) (now (sizes .entry)) (now (prefix .entry))) (now (image .entry)) (now (table .entry)) ⌝ }
-    ensures { λ _. ⌜ now (image .exit) ≡ openImage (openingOf plan (now (ranks .entry)) (now (sizes .entry)) (now (prefix .entry))) (now (image .entry)) (now (table .entry)) ⌝ }
-    ensures { λ _. ⌜ now (table .exit) ≡ openTable (openingOf plan (now (ranks .entry)) (now (sizes .entry)) (now (prefix .entry))) (now (image .entry)) (now (table .entry)) ⌝ }
+    ensures { λ r. ⌜ r ≡ openAnswer (openingOf Single plan (now (ranks .entry)) (now (sizes .entry)) (now (prefix .entry))) (now (image .entry)) (now (table .entry)) ⌝ }
+    ensures { λ _. ⌜ now (image .exit) ≡ openImage (openingOf Single plan (now (ranks .entry)) (now (sizes .entry)) (now (prefix .entry))) (now (image .entry)) (now (table .entry)) ⌝ }
+    ensures { λ _. ⌜ now (table .exit) ≡ openTable (openingOf Single plan (now (ranks .entry)) (now (sizes .entry)) (now (prefix .entry))) (now (image .entry)) (now (table .entry)) ⌝ }
 {
     container::open(plan, ranks, sizes, prefix, image, table)
 }
@@ -79,8 +80,8 @@ pub extern "C" fn lapur_write_lent(
     task: u64,
     bytes: &[u8],
 ) -> u32
-    ensures { λ r. ⌜ r ≡ writeRefusal (stateOf s (now (lists .entry)) (now (image .entry)) (now (table .entry))) (requestOf task (now (bytes .entry))) ⌝ }
-    ensures { λ _. ⌜ stateOf s (now (lists .exit)) (now (image .exit)) (now (table .exit)) ≡ afterWrite (stateOf s (now (lists .entry)) (now (image .entry)) (now (table .entry))) (requestOf task (now (bytes .entry))) ⌝ }
+    ensures { λ r. ⌜ r ≡ writeRefusal (stateOf Single s (now (lists .entry)) (now (image .entry)) (now (table .entry))) (requestOf task (now (bytes .entry))) ⌝ }
+    ensures { λ _. ⌜ stateOf Single s (now (lists .exit)) (now (image .exit)) (now (table .exit)) ≡ afterWrite (stateOf Single s (now (lists .entry)) (now (image .entry)) (now (table .entry))) (requestOf task (now (bytes .entry))) ⌝ }
 {
     container::write(s, lists, image, table, task, bytes)
 }
@@ -92,16 +93,16 @@ pub extern "C" fn lapur_close_lent(
     image: &mut [u8],
     table: &[i64],
 ) -> Closed
-    ensures { λ r. ⌜ r ≡ closeAnswer (stateOf s (now (lists .entry)) (now (image .entry)) (now (table .entry))) ⌝ }
-    ensures { λ _. ⌜ now (image .exit) ≡ closeImage (stateOf s (now (lists .entry)) (now (image .entry)) (now (table .entry))) ⌝ }
+    ensures { λ r. ⌜ r ≡ closeAnswer (stateOf Single s (now (lists .entry)) (now (image .entry)) (now (table .entry))) ⌝ }
+    ensures { λ _. ⌜ now (image .exit) ≡ closeImage (stateOf Single s (now (lists .entry)) (now (image .entry)) (now (table .entry))) ⌝ }
 {
     container::close(s, lists, image, table)
 }
 
 #[no_mangle]
 pub extern "C" fn lapur_load(image: &[u8], table: &mut [i64]) -> LoadAnswer
-    ensures { λ r. ⌜ r ≡ loadAnswer (now (image .entry)) (now (table .entry)) ⌝ }
-    ensures { λ _. ⌜ now (table .exit) ≡ loadTable (now (image .entry)) (now (table .entry)) ⌝ }
+    ensures { λ r. ⌜ r ≡ loadAnswer Single (now (image .entry)) (now (table .entry)) ⌝ }
+    ensures { λ _. ⌜ now (table .exit) ≡ loadTable Single (now (image .entry)) (now (table .entry)) ⌝ }
 {
     container::load(image, table)
 }
@@ -115,7 +116,7 @@ pub extern "C" fn lapur_chunk_lent(
     task: u64,
     chunk: u64,
 ) -> Part
-    ensures { λ r. ⌜ r ≡ partAnswer (containerOf l (now (lists .entry)) (now (image .entry)) (now (table .entry))) task chunk ⌝ }
+    ensures { λ r. ⌜ r ≡ partAnswer (containerOf Single l (now (lists .entry)) (now (image .entry)) (now (table .entry))) task chunk ⌝ }
     ensures { λ r. ⌜ r .start + r .length ≤ length (now (image .entry)) ⌝ }
 {
     container::part(l, lists, image, table, task, chunk)
@@ -129,7 +130,7 @@ pub extern "C" fn lapur_total_lent(
     table: &[i64],
     task: u64,
 ) -> ByteCount
-    ensures { λ r. ⌜ r ≡ totalAnswer (containerOf l (now (lists .entry)) (now (image .entry)) (now (table .entry))) task ⌝ }
+    ensures { λ r. ⌜ r ≡ totalAnswer (containerOf Single l (now (lists .entry)) (now (image .entry)) (now (table .entry))) task ⌝ }
 {
     container::total(l, lists, image, table, task)
 }
@@ -144,8 +145,8 @@ pub extern "C" fn lapur_read_lent(
     p: u64,
     out: &mut [u8],
 ) -> ByteCount
-    ensures { λ r. ⌜ r ≡ readAnswer (containerOf l (now (lists .entry)) (now (image .entry)) (now (table .entry))) task p (now (out .entry)) ⌝ }
-    ensures { λ _. ⌜ now (out .exit) ≡ readOutput (containerOf l (now (lists .entry)) (now (image .entry)) (now (table .entry))) task p (now (out .entry)) ⌝ }
+    ensures { λ r. ⌜ r ≡ readAnswer (containerOf Single l (now (lists .entry)) (now (image .entry)) (now (table .entry))) task p (now (out .entry)) ⌝ }
+    ensures { λ _. ⌜ now (out .exit) ≡ readOutput (containerOf Single l (now (lists .entry)) (now (image .entry)) (now (table .entry))) task p (now (out .entry)) ⌝ }
 {
     container::read(l, lists, image, table, task, p, out)
 }
@@ -157,7 +158,7 @@ pub extern "C" fn lapur_length_lent(
     image: &[u8],
     table: &[i64],
 ) -> ByteCount
-    ensures { λ r. ⌜ r ≡ lengthAnswer (containerOf l (now (lists .entry)) (now (image .entry)) (now (table .entry))) ⌝ }
+    ensures { λ r. ⌜ r ≡ lengthAnswer (containerOf Single l (now (lists .entry)) (now (image .entry)) (now (table .entry))) ⌝ }
 {
     container::whole_length(l, lists, image, table)
 }
@@ -169,7 +170,7 @@ pub extern "C" fn lapur_prefix_lent(
     image: &[u8],
     table: &[i64],
 ) -> Part
-    ensures { λ r. ⌜ r ≡ prefixAnswer (containerOf l (now (lists .entry)) (now (image .entry)) (now (table .entry))) ⌝ }
+    ensures { λ r. ⌜ r ≡ prefixAnswer (containerOf Single l (now (lists .entry)) (now (image .entry)) (now (table .entry))) ⌝ }
     ensures { λ r. ⌜ r .start + r .length ≤ length (now (image .entry)) ⌝ }
 {
     container::prefix(l, lists, image, table)

@@ -12,6 +12,7 @@ use borrow.Author.Tests.{lt-ltb, le-ltb, eq-eqb, ne-eqb}
 use Rattle.lists.specs.Splice.{splice}
 use Rattle.io.specs.Counts.{Counts}
 use Rattle.io.proofs.Counting.{counts}
+use Rattle.format.specs.declared.head.File.the-variants.{Single}
 use Rattle.format.specs.Limits.{maxTasks}
 use Rattle.format.specs.Judge.{tasksIn, headIn}
 use Rattle.format.proofs.Refusals.{when-accepted}
@@ -34,13 +35,13 @@ unfolding lineOf
 short-line input few = rw (le-ltb longest (length input) few)
 
 -- an accepted container has no more than the most tasks
-pub few-tasks : (image : List ℕ) (table : List ℤ) (answer : LoadAnswer) → answer ≡ loadAnswer image table → answer .refusal ≡ 0
+pub few-tasks : (image : List ℕ) (table : List ℤ) (answer : LoadAnswer) → answer ≡ loadAnswer Single image table → answer .refusal ≡ 0
     → answer .loaded .head .n ≤ maxTasks
 unfolding loadAnswer checkAnswer loadedIn headIn tasksIn
 few-tasks image table answer e none =
-    let z : loadRefusal image (length table) ≡ 0 = sym (load-number image table) ∙ ap (λ (a : LoadAnswer). a .refusal) (sym e) ∙ none in
-    let n = ap (λ (a : LoadAnswer). a .loaded .head .n) (e ∙ when-accepted (loadRefusal image (length table)) _ _ z) in
-    rw n (tasks-in (load-holds image (length table) z .first .front) .2)
+    let z : loadRefusal Single image (length table) ≡ 0 = sym (load-number Single image table) ∙ ap (λ (a : LoadAnswer). a .refusal) (sym e) ∙ none in
+    let n = ap (λ (a : LoadAnswer). a .loaded .head .n) (e ∙ when-accepted (loadRefusal Single image (length table)) _ _ z) in
+    rw n (tasks-in (load-holds Single image (length table) z .first .front) .2)
 
 -- the line, put at the start of the memory
 pub line-put : (image xs : List ℕ) {text ys : List ℕ} {end : ℕ} → text ≡ containerLine image → end < lineRoom → lineRoom ≤ length ys → Put xs 0 text ys end
@@ -55,10 +56,10 @@ module _ (image : List ℕ) where
   told answer table =
       answer .loaded .head .n
       ∷ answer .loaded .maxchunks
-      ∷ totalsOf (containerOf (answer .loaded) (answer .lists) image table)
+      ∷ totalsOf (containerOf Single (answer .loaded) (answer .lists) image table)
 
-  module _ (answer : LoadAnswer) (table : List ℤ) (e : answer ≡ loadAnswer image (replicate cells (pos 0)))
-      (t : table ≡ loadTable image (replicate cells (pos 0))) where
+  module _ (answer : LoadAnswer) (table : List ℤ) (e : answer ≡ loadAnswer Single image (replicate cells (pos 0)))
+      (t : table ≡ loadTable Single image (replicate cells (pos 0))) where
     line-is : decimal (answer .refusal) ++ spaced (cond (eqb (answer .refusal) 0) (told answer table) []) ≡ containerLine image
     unfolding containerLine rest loaded
     line-is =
@@ -73,6 +74,6 @@ module _ (image : List ℕ) where
 
     pub accepted-line : answer .refusal ≡ 0
         → ((decimal (answer .refusal) ++ (space ∷ decimal (answer .loaded .head .n))) ++ (space ∷ decimal (answer .loaded .maxchunks)))
-        ++ spaced (totalsOf (containerOf (answer .loaded) (answer .lists) image table))
+        ++ spaced (totalsOf (containerOf Single (answer .loaded) (answer .lists) image table))
         ≡ containerLine image
     accepted-line none = simp append-assoc (by-test _ (eq-eqb (answer .refusal) 0 none))

@@ -5,6 +5,7 @@ ghost use Prim.Native.Nat.{_+_, _*_, _≤_, _<_};
 ghost use lib.ListN.{length};
 ghost use Rattle.lists.specs.Splice.{splice};
 ghost use Rattle.io.specs.Counts.{Counts};
+ghost use Rattle.format.specs.declared.head.File.the-variants.{Single};
 ghost use Rattle.format.specs.declared.loaded.Loaded.{Loaded};
 ghost use Rattle.format.specs.Reads.{containerOf};
 ghost use Rattle.format.specs.Line.{decimal, space, spaced, totalsOf, lineRoom, containerLine, lineOf};
@@ -51,8 +52,8 @@ fn put_totals(
     at: usize,
 ) -> usize
     requires { ⌜ at + 21 * l .head .n ≤ length (now out) ⌝ }
-    ensures { λ _. ⌜ now (out .exit) ≡ splice (now (out .entry)) at (spaced (totalsOf (containerOf l (now (lists .entry)) (now (image .entry)) (now (table .entry))))) ⌝ }
-    ensures { λ r. ⌜ (r ≡ at + length (spaced (totalsOf (containerOf l (now (lists .entry)) (now (image .entry)) (now (table .entry)))))) × (r ≤ at + 21 * l .head .n) ⌝ }
+    ensures { λ _. ⌜ now (out .exit) ≡ splice (now (out .entry)) at (spaced (totalsOf (containerOf Single l (now (lists .entry)) (now (image .entry)) (now (table .entry))))) ⌝ }
+    ensures { λ r. ⌜ (r ≡ at + length (spaced (totalsOf (containerOf Single l (now (lists .entry)) (now (image .entry)) (now (table .entry)))))) × (r ≤ at + 21 * l .head .n) ⌝ }
 {
     let n = l.head.n as u64;
     let mut end = at;

@@ -19,6 +19,7 @@ use Rattle.endian.proofs.Signed.{within-holds}
 use Rattle.format.specs.Limits.{maxTasks, maxSize, maxBlocks, Sound}
 use Rattle.format.specs.Layout.{meta2Length, meta2End}
 use Rattle.format.specs.declared.head.Head.{Head}
+use Rattle.format.specs.declared.head.File.{File}
 use Rattle.front.specs.declared.Fixed.{Fixed}
 use Rattle.meta1.specs.declared.Last.{Last}
 use Rattle.format.specs.declared.fault.Verdict.{Verdict}
@@ -38,7 +39,7 @@ use Rattle.format.proofs.Filled.{filled-cong}
 use Rattle.format.proofs.Record.{holds-agree, meta2At-agree, endAt-agree}
 use Rattle.format.proofs.Stripes.{length-lists, length-sizes, size-made, counts-put}
 use Rattle.format.proofs.Accepting.{Meta1Holds, fixed-numbered, rank-numbered, size-numbered, meta1-numbered, meta1-holds, meta2-numbered, block-in, tasks-in, size-in, maxchunks-in, meta2-holds}
-use Rattle.front.proofs.Answers.{fixed-verdict, fixed-head}
+use Rattle.front.proofs.Answers.{fixed-verdict, fixed-head, head-read}
 use Rattle.meta1.proofs.Answers.{lists-are, rest-verdict, rest-is}
 use Rattle.format.specs.declared.loaded.LoadAnswer.{LoadAnswer}
 use Rattle.format.specs.Loaded.{loadedOf, noLoaded}
@@ -51,26 +52,27 @@ some-number some = ⊎-elim (λ none. absurd (some none)) (λ l. l) (eq-zero-or-
 
 -- ---- what META1's two parts give
 
-module _ (image : List ℕ) {one : Fixed} (gives : one ≡ fixedGives image (length image)) where
-  fixed-found : verdict (fixedTests image (length image)) ≡ one .verdict
-  fixed-found = sym (fixed-verdict image (length image)) ∙ ap (λ (f : Fixed). f .verdict) (sym gives)
+module _ (f : File) (image : List ℕ) {one : Fixed} (gives : one ≡ fixedGives f image (length image)) where
+  fixed-found : verdict (fixedTests image f (length image)) ≡ one .verdict
+  fixed-found = sym (fixed-verdict f image (length image)) ∙ ap (λ (x : Fixed). x .verdict) (sym gives)
 
-  pub head-read : one .verdict .refusal ≡ 0 → HeadRead image (length image) (one .head)
-  head-read none =
-      let zero : firstFailing (fixedTests image (length image)) ≡ 0 = (λ i. fixed-found i .refusal) ∙ none in
-      record {
-        covers = λ k l m. l;
-        fixed = zero;
-        head-is = ap (λ (f : Fixed). f .head) gives ∙ fixed-head image (length image) zero;
-      }
+  module _ (none : one .verdict .refusal ≡ 0) where
+    pub fixed-passed : firstFailing (fixedTests image f (length image)) ≡ 0
+    fixed-passed = (λ i. fixed-found i .refusal) ∙ none
 
-module _ {image : List ℕ} {h : Head} (p : HeadRead image (length image) h) {last : Last} (gives : last ≡ restGives image (length image)) where
+    pub read : HeadRead image (length image) (one .head)
+    read =
+        head-read f image (length image) (λ k l m. l) fixed-passed
+        (ap (λ (x : Fixed). x .head) gives ∙ fixed-head f image (length image) fixed-passed)
+
+module _ (f : File) (image : List ℕ) (fixed : firstFailing (fixedTests image f (length image)) ≡ 0) {last : Last}
+    (gives : last ≡ restGives image (length image)) where
   rest-found : verdict (restTests image (length image)) ≡ last .verdict
   rest-found = sym (rest-verdict image (length image)) ∙ ap (λ (l : Last). l .verdict) (sym gives)
 
-  meta1-found : verdict (meta1Tests image (length image)) ≡ last .verdict
+  meta1-found : verdict (meta1Tests image f (length image)) ≡ last .verdict
   unfolding meta1Tests
-  meta1-found = verdict-passes (fixedTests image (length image)) _ (fixed-numbered image (length image)) (p .fixed) ∙ rest-found
+  meta1-found = verdict-passes (fixedTests image f (length image)) _ (fixed-numbered image f (length image)) fixed ∙ rest-found
 
 -- ---- refused, the number is handed back with a record of zeros
 
@@ -78,38 +80,38 @@ module _ {image : List ℕ} {h : Head} (p : HeadRead image (length image) h) {la
 abbrev pub refusedBy : Verdict → LoadAnswer
 refusedBy v = record { loaded = noLoaded; lists = noLists; refusal = v .refusal; fault = v .fault }
 
-module _ (image : List ℕ) (cells : ℕ) where
-  refused-answer : {v : Verdict} → (v .refusal ≡ 0 → ⊥) → verdict (loadTests image cells) ≡ v → refusedBy v ≡ checkAnswer image cells
+module _ (f : File) (image : List ℕ) (cells : ℕ) where
+  refused-answer : {v : Verdict} → (v .refusal ≡ 0 → ⊥) → verdict (loadTests f image cells) ≡ v → refusedBy v ≡ checkAnswer f image cells
   unfolding checkAnswer loadRefusal loadFault
   refused-answer {v} some e =
-      let number : v .refusal ≡ firstFailing (loadTests image cells) = λ i. sym e i .refusal in
-      let refused : 0 < firstFailing (loadTests image cells) = omega (arith, some-number some) in
-      sym (when-refused (firstFailing (loadTests image cells)) _ _ refused ∙ (λ i. refusedBy (e i)))
+      let number : v .refusal ≡ firstFailing (loadTests f image cells) = λ i. sym e i .refusal in
+      let refused : 0 < firstFailing (loadTests f image cells) = omega (arith, some-number some) in
+      sym (when-refused (firstFailing (loadTests f image cells)) _ _ refused ∙ (λ i. refusedBy (e i)))
 
-  at-meta1 : {v : Verdict} → (v .refusal ≡ 0 → ⊥) → verdict (meta1Tests image (length image)) ≡ v → verdict (loadTests image cells) ≡ v
+  at-meta1 : {v : Verdict} → (v .refusal ≡ 0 → ⊥) → verdict (meta1Tests image f (length image)) ≡ v → verdict (loadTests f image cells) ≡ v
   unfolding loadTests
   at-meta1 {v} some e =
-      let number : v .refusal ≡ firstFailing (meta1Tests image (length image)) = λ i. sym e i .refusal in
-      verdict-fails (meta1Tests image (length image)) _ (omega (arith, some-number some)) ∙ e
+      let number : v .refusal ≡ firstFailing (meta1Tests image f (length image)) = λ i. sym e i .refusal in
+      verdict-fails (meta1Tests image f (length image)) _ (omega (arith, some-number some)) ∙ e
 
   -- by the fixed fields of META1, and by the rest of it
-  pub refused-fixed : {one : Fixed} → one ≡ fixedGives image (length image) → (one .verdict .refusal ≡ 0 → ⊥)
-      → refusedBy (one .verdict) ≡ checkAnswer image cells
+  pub refused-fixed : {one : Fixed} → one ≡ fixedGives f image (length image) → (one .verdict .refusal ≡ 0 → ⊥)
+      → refusedBy (one .verdict) ≡ checkAnswer f image cells
   unfolding meta1Tests
   refused-fixed {one} gives some =
-      let e = fixed-found image gives in
-      let number : one .verdict .refusal ≡ firstFailing (fixedTests image (length image)) = λ i. sym e i .refusal in
-      refused-answer some (at-meta1 some (verdict-fails (fixedTests image (length image)) _ (omega (arith, some-number some)) ∙ e))
+      let e = fixed-found f image gives in
+      let number : one .verdict .refusal ≡ firstFailing (fixedTests image f (length image)) = λ i. sym e i .refusal in
+      refused-answer some (at-meta1 some (verdict-fails (fixedTests image f (length image)) _ (omega (arith, some-number some)) ∙ e))
 
-  pub refused-rest : {h : Head} → HeadRead image (length image) h → {last : Last} → last ≡ restGives image (length image)
-      → (last .verdict .refusal ≡ 0 → ⊥) → refusedBy (last .verdict) ≡ checkAnswer image cells
-  refused-rest p gives some = refused-answer some (at-meta1 some (meta1-found p gives))
+  pub refused-rest : firstFailing (fixedTests image f (length image)) ≡ 0 → {last : Last} → last ≡ restGives image (length image)
+      → (last .verdict .refusal ≡ 0 → ⊥) → refusedBy (last .verdict) ≡ checkAnswer f image cells
+  refused-rest fixed gives some = refused-answer some (at-meta1 some (meta1-found f image fixed gives))
 
 -- ---- META1 accepted: what META2 is judged by, and where it stands
 
-module _ (image : List ℕ) (zero : firstFailing (meta1Tests image (length image)) ≡ 0) where
-  first : Meta1Holds image (length image)
-  first = meta1-holds image (length image) zero
+module _ (f : File) (image : List ℕ) (zero : firstFailing (meta1Tests image f (length image)) ≡ 0) where
+  first : Meta1Holds f image (length image)
+  first = meta1-holds image f (length image) zero
 
   few-tasks : tasksIn image ≤ maxTasks
   unfolding tasksIn
@@ -174,18 +176,19 @@ counts-are h size m at part small zero =
     (all-unsigned (signBit 8) (h .n) f f (λ i l. refl) (leastCount (h .format)) m (omega arith) ∙ range))
 
 -- what the code has of META1: the head, maxchunks and META2's start, and lists with no count
-pub record Found (image : List ℕ) (h : Head) (last : Last) (lists : List ℕ) : Type 0 where
-  pub zero : firstFailing (meta1Tests image (length image)) ≡ 0
+pub record Found (f : File) (image : List ℕ) (h : Head) (last : Last) (lists : List ℕ) : Type 0 where
+  pub zero : firstFailing (meta1Tests image f (length image)) ≡ 0
   pub head-is : h ≡ headIn image
   pub last-is : last ≡ record { verdict = last .verdict; maxchunks = maxchunksIn image; start = meta2In image }
   pub lists-is : lists ≡ listsOf (tasksIn image) (rankIn image) (sizeIn image) (λ i. 0)
 
-pub found : {image : List ℕ} {h : Head} {last : Last} {lists : List ℕ} → HeadRead image (length image) h → last ≡ restGives image (length image)
-    → lists ≡ listsRead image h → last .verdict .refusal ≡ 0 → Found image h last lists
+pub found : {f : File} {image : List ℕ} {h : Head} {last : Last} {lists : List ℕ} → firstFailing (fixedTests image f (length image)) ≡ 0
+    → HeadRead image (length image) h → last ≡ restGives image (length image) → lists ≡ listsRead image h → last .verdict .refusal ≡ 0
+    → Found f image h last lists
 unfolding restTests
-found {image} {h} {last} {lists} p gives read none =
-    let rest : firstFailing (restTests image (length image)) ≡ 0 = (λ i. rest-found p gives i .refusal) ∙ none in
-    let zero : firstFailing (meta1Tests image (length image)) ≡ 0 = (λ i. meta1-found p gives i .refusal) ∙ none in
+found {f} {image} {h} {last} {lists} fixed p gives read none =
+    let rest : firstFailing (restTests image (length image)) ≡ 0 = (λ i. rest-found f image fixed gives i .refusal) ∙ none in
+    let zero : firstFailing (meta1Tests image f (length image)) ≡ 0 = (λ i. meta1-found f image fixed gives i .refusal) ∙ none in
     let (ranks, later) = both-pass (rankTests image) _ (rank-numbered image (length image)) rest in
     let sizes = both-pass (requestedTests image) _ (size-numbered image (length image)) later .0 in
     record {
@@ -194,34 +197,34 @@ found {image} {h} {last} {lists} p gives read none =
       last-is =
           gives
           ∙ rest-is image (length image) rest
-          ∙ (λ i. record { verdict = rest-found p gives i; maxchunks = maxchunksIn image; start = meta2In image });
+          ∙ (λ i. record { verdict = rest-found f image fixed gives i; maxchunks = maxchunksIn image; start = meta2In image });
       lists-is = read ∙ lists-are p ranks sizes;
     }
 
-module _ {image : List ℕ} {h : Head} {last : Last} {lists : List ℕ} (f : Found image h last lists) where
+module _ {f : File} {image : List ℕ} {h : Head} {last : Last} {lists : List ℕ} (x : Found f image h last lists) where
   pub sound : Sound (h .blocksize) (h .n) (sizesOf lists)
   unfolding headIn
-  sound = rw (f .head-is, f .lists-is) (sound-sizes image (f .zero) (λ i. 0))
+  sound = rw (x .head-is, x .lists-is) (sound-sizes f image (x .zero) (λ i. 0))
 
   pub few : last .maxchunks ≤ maxBlocks
-  few = rw (f .last-is) (few-chunks image (f .zero))
+  few = rw (x .last-is) (few-chunks f image (x .zero))
 
   pub fits : last .start + meta2Length (h .n) (last .maxchunks) ≤ length image
   unfolding headIn
-  fits = rw (f .head-is, f .last-is) (ends image (f .zero))
+  fits = rw (x .head-is, x .last-is) (ends f image (x .zero))
 
   cells-are : h .n * last .maxchunks ≡ tasksIn image * maxchunksIn image
   unfolding headIn
-  cells-are = ap₂ (λ (h : Head) (l : Last). h .n * l .maxchunks) (f .head-is) (f .last-is)
+  cells-are = ap₂ (λ (h : Head) (l : Last). h .n * l .maxchunks) (x .head-is) (x .last-is)
 
   pub refused-table : {cells : ℕ} → cells < h .n * last .maxchunks
       → refusedBy (record { refusal = 18; fault = numberFault Kinds.table 0 (pos cells) (h .n * last .maxchunks) (h .n * last .maxchunks) })
-      ≡ checkAnswer image cells
+      ≡ checkAnswer f image cells
   unfolding loadTests
   refused-table {cells} l =
       (λ i. refusedBy (record { refusal = 18; fault = numberFault Kinds.table 0 (pos cells) (cells-are i) (cells-are i) }))
-      ∙ refused-answer image cells (λ z. omega arith)
-      (verdict-passes (meta1Tests image (length image)) _ (meta1-numbered image (length image)) (f .zero)
+      ∙ refused-answer f image cells (λ z. omega arith)
+      (verdict-passes (meta1Tests image f (length image)) _ (meta1-numbered image f (length image)) (x .zero)
       ∙ fails-first _ _ (lt-ltb cells (tasksIn image * maxchunksIn image) (rw (sym cells-are) l)))
 
   -- META2's part as the code takes it: from its start, L bytes, to its end
@@ -234,14 +237,14 @@ module _ {image : List ℕ} {h : Head} {last : Last} {lists : List ℕ} (f : Fou
     part-is =
         let same : last .start + L - last .start ≡ meta2Length (h .n) (last .maxchunks) = omega arith in
         ap (λ (k : ℕ). take k (drop (last .start) image)) same
-        ∙ ap₂ (λ (h : Head) (l : Last). take (meta2Length (h .n) (l .maxchunks)) (drop (l .start) image)) (f .head-is) (f .last-is)
+        ∙ ap₂ (λ (h : Head) (l : Last). take (meta2Length (h .n) (l .maxchunks)) (drop (l .start) image)) (x .head-is) (x .last-is)
 
     part-long : length part ≡ last .start + L - last .start
     part-long = length-take-le (last .start + L - last .start) (drop (last .start) image) (simp length-drop (omega (arith, fits)))
 
     pub there : length image < 2 ^ 64 → Meta2There part (last .start) h (last .maxchunks) lists
     there short = record {
-      as-many = rw (f .lists-is) (length-lists (tasksIn image) (rankIn image) (sizeIn image) (λ i. 0));
+      as-many = rw (x .lists-is) (length-lists (tasksIn image) (rankIn image) (sizeIn image) (λ i. 0));
       sound = sound;
       small = few;
       whole =
@@ -257,20 +260,20 @@ module _ {image : List ℕ} {h : Head} {last : Last} {lists : List ℕ} (f : Fou
       second =
           sym
           (judged
-          ∙ rw (part-is, f .head-is, f .last-is, f .lists-is)
+          ∙ rw (part-is, x .head-is, x .last-is, x .lists-is)
           (ap verdict
-          (meta2-agree (headIn image) (sizeOf (listed image (f .zero) (λ i. 0))) (sizeIn image) (maxchunksIn image) (meta2In image) (meta2Bytes image)
-          (size-is image (f .zero) (λ i. 0)))))
+          (meta2-agree (headIn image) (sizeOf (listed f image (x .zero) (λ i. 0))) (sizeIn image) (maxchunksIn image) (meta2In image) (meta2Bytes image)
+          (size-is f image (x .zero) (λ i. 0)))))
 
-      found-verdict : verdict (loadTests image cells) ≡ v
+      found-verdict : verdict (loadTests f image cells) ≡ v
       unfolding loadTests
       found-verdict =
-          verdict-passes (meta1Tests image (length image)) _ (meta1-numbered image (length image)) (f .zero)
+          verdict-passes (meta1Tests image f (length image)) _ (meta1-numbered image f (length image)) (x .zero)
           ∙ passes-first _ _ (le-ltb cells (tasksIn image * maxchunksIn image) (rw (sym cells-are) room))
           ∙ second
 
-      pub refused-meta2 : (v .refusal ≡ 0 → ⊥) → refusedBy v ≡ checkAnswer image cells
-      refused-meta2 some = refused-answer image cells some found-verdict
+      pub refused-meta2 : (v .refusal ≡ 0 → ⊥) → refusedBy v ≡ checkAnswer f image cells
+      refused-meta2 some = refused-answer f image cells some found-verdict
 
       -- accepted, the record is handed back, and no fault
       module _ (zero : v .refusal ≡ 0) where
@@ -282,12 +285,12 @@ module _ {image : List ℕ} {h : Head} {last : Last} {lists : List ℕ} (f : Fou
             (λ i. sym second i .fault)
             ∙ (λ i. verdict-none _ (meta2-numbered (headIn image) (sizeIn image) (maxchunksIn image) (meta2Bytes image) (meta2In image)) second-passes i .fault)
 
-        all-passed : loadRefusal image cells ≡ 0
+        all-passed : loadRefusal f image cells ≡ 0
         unfolding loadRefusal
         all-passed = (λ i. found-verdict i .refusal) ∙ zero
 
         pub accepted : {counted : List ℕ} → counted ≡ withCounts lists (h .n) (λ i. numberAt (isBig h) 8 part (8 * i))
-            → record { loaded = loadedOf h (last .maxchunks) 0; lists = counted; refusal = 0; fault = v .fault } ≡ checkAnswer image cells
+            → record { loaded = loadedOf h (last .maxchunks) 0; lists = counted; refusal = 0; fault = v .fault } ≡ checkAnswer f image cells
         unfolding checkAnswer loadedIn listsIn listsOf headIn
         accepted {counted} e =
             let n = tasksIn image in
@@ -295,32 +298,32 @@ module _ {image : List ℕ} {h : Head} {last : Last} {lists : List ℕ} (f : Fou
             let sizes = filled n (sizeIn image) in
             let made : counted ≡ listsIn image =
             e
-            ∙ rw (part-is, f .head-is, f .lists-is)
-            (counts-put n (rankIn image) (sizeIn image) (few-tasks image (f .zero)) (λ i. numberAt (isBig (headIn image)) 8 (meta2Bytes image) (8 * i))
+            ∙ rw (part-is, x .head-is, x .lists-is)
+            (counts-put n (rankIn image) (sizeIn image) (few-tasks f image (x .zero)) (λ i. numberAt (isBig (headIn image)) 8 (meta2Bytes image) (8 * i))
             ∙ ap (λ (xs : List ℕ). ranks ++ (sizes ++ xs))
-            (counts-are (headIn image) (sizeIn image) (maxchunksIn image) (meta2In image) (meta2Bytes image) (few-chunks image (f .zero)) second-passes)) in
-            (λ i. record { loaded = loadedOf (f .head-is i) (f .last-is i .maxchunks) 0; lists = made i; refusal = 0; fault = no-fault i })
-            ∙ sym (when-accepted (loadRefusal image cells) _ _ all-passed)
+            (counts-are (headIn image) (sizeIn image) (maxchunksIn image) (meta2In image) (meta2Bytes image) (few-chunks f image (x .zero)) second-passes)) in
+            (λ i. record { loaded = loadedOf (x .head-is i) (x .last-is i .maxchunks) 0; lists = made i; refusal = 0; fault = no-fault i })
+            ∙ sym (when-accepted (loadRefusal f image cells) _ _ all-passed)
 
 -- ---- a load: the check, then the table
 
-module _ (image : List ℕ) (table : List ℤ) {answer : LoadAnswer} (checked : answer ≡ checkAnswer image (length table)) where
-  refusal-is : loadRefusal image (length table) ≡ answer .refusal
+module _ (f : File) (image : List ℕ) (table : List ℤ) {answer : LoadAnswer} (checked : answer ≡ checkAnswer f image (length table)) where
+  refusal-is : loadRefusal f image (length table) ≡ answer .refusal
   unfolding checkAnswer
   refusal-is = sym (ap (λ (a : LoadAnswer). a .refusal) checked ∙ number-is _ _ _ (λ (a : LoadAnswer). a .refusal) refl refl)
 
-  pub table-kept : (answer .refusal ≡ 0 → ⊥) → table ≡ loadTable image table
+  pub table-kept : (answer .refusal ≡ 0 → ⊥) → table ≡ loadTable f image table
   unfolding loadTable
-  table-kept some = sym (when-refused (loadRefusal image (length table)) _ _ (rw refusal-is (some-number some)))
+  table-kept some = sym (when-refused (loadRefusal f image (length table)) _ _ (rw refusal-is (some-number some)))
 
   module _ (none : answer .refusal ≡ 0) where
     answer-is : answer ≡ record { loaded = loadedIn image; lists = listsIn image; refusal = 0; fault = noFault }
     unfolding checkAnswer
-    answer-is = checked ∙ when-accepted (loadRefusal image (length table)) _ _ (refusal-is ∙ none)
+    answer-is = checked ∙ when-accepted (loadRefusal f image (length table)) _ _ (refusal-is ∙ none)
 
-    passes : firstFailing (meta1Tests image (length image)) ≡ 0
+    passes : firstFailing (meta1Tests image f (length image)) ≡ 0
     unfolding loadRefusal loadTests
-    passes = both-pass (meta1Tests image (length image)) _ (meta1-numbered image (length image)) (refusal-is ∙ none) .0
+    passes = both-pass (meta1Tests image f (length image)) _ (meta1-numbered image f (length image)) (refusal-is ∙ none) .0
 
     pub fillable : Meta2Fits (answer .loaded .head) (answer .lists) (answer .loaded .maxchunks) image table
     unfolding loadedIn listsIn headIn
@@ -328,12 +331,12 @@ module _ (image : List ℕ) (table : List ℤ) {answer : LoadAnswer} (checked : 
         let count = countIn (headIn image) (meta2Bytes image) in
         rw answer-is (record {
           as-many = length-lists (tasksIn image) (rankIn image) (sizeIn image) count;
-          sound = sound-sizes image passes count;
-          few = few-chunks image passes;
+          sound = sound-sizes f image passes count;
+          few = few-chunks f image passes;
           image-long =
-              rw (endAt-agree (headIn image) (sizeOf (listsIn image)) (sizeIn image) (size-is image passes count) (maxchunksIn image))
-              (first image passes .fits);
-          table-long = load-holds image (length table) (refusal-is ∙ none) .table-long;
+              rw (endAt-agree (headIn image) (sizeOf (listsIn image)) (sizeIn image) (size-is f image passes count) (maxchunksIn image))
+              (first f image passes .fits);
+          table-long = load-holds f image (length table) (refusal-is ∙ none) .table-long;
         })
 
     pub table-filled : {filled : List ℤ}
@@ -342,12 +345,12 @@ module _ (image : List ℕ) (table : List ℤ) {answer : LoadAnswer} (checked : 
         (valuesIn (answer .loaded .head) (answer .loaded .maxchunks)
         (meta2Part image (meta2At (answer .loaded .head) (sizeOf (answer .lists)) (answer .loaded .maxchunks)) (answer .loaded .head .n)
         (answer .loaded .maxchunks)))
-        → filled ≡ loadTable image table
+        → filled ≡ loadTable f image table
     unfolding loadTable loadedIn listsIn headIn meta2Bytes meta2In
     table-filled e =
         e
         ∙ rw (
           answer-is,
-          meta2At-agree (headIn image) (sizeOf (listsIn image)) (sizeIn image) (size-is image passes (countIn (headIn image) (meta2Bytes image)))
+          meta2At-agree (headIn image) (sizeOf (listsIn image)) (sizeIn image) (size-is f image passes (countIn (headIn image) (meta2Bytes image)))
               (maxchunksIn image),
-        ) (sym (when-accepted (loadRefusal image (length table)) _ _ (refusal-is ∙ none)))
+        ) (sym (when-accepted (loadRefusal f image (length table)) _ _ (refusal-is ∙ none)))

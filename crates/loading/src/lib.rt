@@ -2,6 +2,8 @@
 ghost use mathlib.Core.Path.{_≡_};
 ghost use Rattle.lists.specs.Splice.{splice};
 ghost use Rattle.format.specs.declared.head.Head.{Head};
+ghost use Rattle.format.specs.declared.head.File.{File};
+ghost use Rattle.format.specs.declared.head.File.the-variants.{Single};
 ghost use Rattle.format.specs.Meta2.{meta2Part};
 ghost use Rattle.format.specs.Record.{sizeOf, noLists, meta2At};
 ghost use Rattle.format.specs.Judge.{valuesIn};
@@ -13,6 +15,7 @@ ghost use Rattle.format.specs.Passed.{Meta2Fits};
 use format::fault;
 use format::fault::Verdict;
 use format::head;
+use format::head::File;
 use format::head::Head;
 use format::head::LISTS;
 use format::loaded::LoadAnswer;
@@ -39,12 +42,13 @@ fn no_container(verdict: Verdict) -> LoadAnswer
     }
 }
 
-// Checks an image, tests 1 to 12, 18 and 13 in the order of document 01, for a table of so many cells; no table is touched.
-pub fn check(image: &[u8], cells: usize) -> LoadAnswer
-    ensures { λ r. ⌜ r ≡ checkAnswer (now (image .entry)) cells ⌝ }
+// Checks an image as the file that the call means, tests 1 to 12, 18 and 13 in the order of document 01, for a table of so many cells; no table is
+// touched.
+pub fn check(file: File, image: &[u8], cells: usize) -> LoadAnswer
+    ensures { λ r. ⌜ r ≡ checkAnswer file (now (image .entry)) cells ⌝ }
 {
     let len = image.len() as u64;
-    let one = front::judge_fixed(image, len);
+    let one = front::judge_fixed(file, image, len);
     if one.verdict.refusal != 0 {
         return no_container(one.verdict);
     }
@@ -99,10 +103,10 @@ pub fn fill(image: &[u8], h: Head, lists: &[u64], maxchunks: u32, table: &mut [i
 
 // Checks an image. Accepted, the record is handed back and the first n times maxchunks cells are filled.
 pub fn load(image: &[u8], table: &mut [i64]) -> LoadAnswer
-    ensures { λ r. ⌜ r ≡ loadAnswer (now (image .entry)) (now (table .entry)) ⌝ }
-    ensures { λ _. ⌜ now (table .exit) ≡ loadTable (now (image .entry)) (now (table .entry)) ⌝ }
+    ensures { λ r. ⌜ r ≡ loadAnswer Single (now (image .entry)) (now (table .entry)) ⌝ }
+    ensures { λ _. ⌜ now (table .exit) ≡ loadTable Single (now (image .entry)) (now (table .entry)) ⌝ }
 {
-    let answer = check(image, table.len());
+    let answer = check(File::Single, image, table.len());
     if answer.refusal != 0 {
         return answer;
     }

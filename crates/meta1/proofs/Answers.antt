@@ -47,22 +47,6 @@ module _ {xs : List ℕ} {len : ℕ} {h : Head} (p : HeadRead xs len h) where
   unfolding headIn
   head-n = ap (λ (g : Head). g .n) (p .head-is)
 
-  head-facts : (blocksizeRule (pos (h .blocksize)) ≡ true) × (h .n ≤ maxTasks) × (meta1End (h .n) ≤ len)
-  unfolding headIn tasksIn fixedTests fieldTests
-  head-facts =
-      let zero = both-pass (startTests xs len) (fieldTests xs len) (start-numbered xs len) (p .fixed) .1 in
-      let (format, (block, (tasks, (files, (number, (long, end)))))) = none-fails (fieldTests xs len) (field-numbered xs len) zero in (
-        rw (p .head-is) (ap blocksizeRule (sym (blocksize-natural _ (not-false _ block) .0)) ∙ not-false _ block),
-        rw (p .head-is) (tasks-natural _ (not-false _ tasks) .2),
-        rw (p .head-is) (ltb-false len (meta1End (tasksIn xs)) long),
-      )
-
-  pub few-tasks : h .n ≤ maxTasks
-  few-tasks = head-facts .1
-
-  pub head-long : meta1End (h .n) ≤ len
-  head-long = head-facts .2
-
   refused-rest : {v : Verdict} → 0 < v .refusal → verdict (restTests xs len) ≡ v → record { verdict = v; maxchunks = 0; start = 0 } ≡ restGives xs len
   unfolding restGives
   refused-rest {v} some e = sym (ap (restBy xs) e ∙ when-refused (v .refusal) _ _ some)
@@ -77,11 +61,11 @@ module _ {xs : List ℕ} {len : ℕ} {h : Head} (p : HeadRead xs len h) where
   module _ {lists : List ℕ} (read : lists ≡ listsRead xs h) where
     rank-read : (i : ℕ) → i < h .n → rankOf lists i ≡ rank i
     unfolding listsRead
-    rank-read i l = rw read (rank-made (h .n) rank size (λ i. 0) few-tasks i l)
+    rank-read i l = rw read (rank-made (h .n) rank size (λ i. 0) (p .few) i l)
 
     size-read : (i : ℕ) → i < h .n → sizeOf lists i ≡ size i
     unfolding listsRead
-    size-read i l = rw read (size-made (h .n) rank size (λ i. 0) few-tasks i l)
+    size-read i l = rw read (size-made (h .n) rank size (λ i. 0) (p .few) i l)
 
     pub read-long : length lists ≡ allLists
     unfolding listsRead
@@ -149,7 +133,7 @@ module _ {xs : List ℕ} {len : ℕ} {h : Head} (p : HeadRead xs len h) where
                 ranked = ranked;
                 sized = fields-pass 9 (omega arith) _ _ (tasksIn xs) (first-past _ (first-size size-is) (rw (sym head-n) end));
                 sound =
-                    record { block = head-facts .0; tasks = few-tasks; listed = omega (arith, length-sizes lists read-long, few-tasks); sized = sized };
+                    record { block = p .block; tasks = p .few; listed = omega (arith, length-sizes lists read-long, p .few); sized = sized };
                 sizes-are =
                     λ i l. rw (sym head-n, sym head-big) (natural-unsigned 63 (h .n) size (sizeOf lists) size-read 1 maxSize (omega arith) sized i l);
               }

@@ -8,6 +8,8 @@ ghost use Rattle.lists.specs.Splice.{splice};
 ghost use Rattle.format.specs.Limits.{maxTasks, maxBlocks};
 ghost use Rattle.format.specs.Refusals.{firstFailing};
 ghost use Rattle.format.specs.Record.{entry, countAt, listsOf, withCounts, noLists};
+ghost use Rattle.format.specs.declared.head.File.{File};
+ghost use Rattle.format.specs.declared.head.File.the-variants.{Single};
 ghost use Rattle.format.specs.declared.session.Plan.{Plan};
 ghost use Rattle.format.specs.declared.session.Needed.{Needed};
 ghost use Rattle.format.specs.declared.session.Opened.{Opened};
@@ -16,6 +18,7 @@ ghost use Rattle.format.specs.Meta2.{unused};
 ghost use Rattle.format.specs.Open.{openingOf, shapeTests, blankCells, numberTests, needsAnswer, openRefusal, openAnswer, openImage, openFound, openTable};
 use format::field;
 use format::head;
+use format::head::File;
 use format::head::Head;
 use format::head::LISTS;
 use format::limit;
@@ -110,7 +113,7 @@ fn no_need(refusal: u32) -> Needed
 
 // The lengths that an opening requires of image and table, or the refusal of its plan: tests 2, 4, 5, 6, 21, 8, 9 and 20, in this order.
 pub fn needs(plan: Plan, ranks: &[u64], sizes: &[u64], prefix: &[u8]) -> Needed
-    ensures { λ r. ⌜ r ≡ needsAnswer (openingOf plan (now (ranks .entry)) (now (sizes .entry)) (now (prefix .entry))) ⌝ }
+    ensures { λ r. ⌜ r ≡ needsAnswer (openingOf Single plan (now (ranks .entry)) (now (sizes .entry)) (now (prefix .entry))) ⌝ }
 {
     let shape = shape_refusal(
         plan.order,
@@ -145,7 +148,7 @@ fn open_refusal(
     image: u64,
     cells: u64,
 ) -> u32
-    ensures { λ r. ⌜ r ≡ openRefusal (openingOf plan (now (ranks .entry)) (now (sizes .entry)) (now (prefix .entry))) image cells ⌝ }
+    ensures { λ r. ⌜ r ≡ openRefusal (openingOf Single plan (now (ranks .entry)) (now (sizes .entry)) (now (prefix .entry))) image cells ⌝ }
 {
     let needed = needs(plan, ranks, sizes, prefix);
     if needed.refusal != 0 {
@@ -229,9 +232,10 @@ fn blank(table: &mut [i64], n: usize, begun: usize, planned: usize)
     mark_unused(table, n * begun, n * (planned - begun));
 }
 
-// Opens a session of as many tasks as there are ranks: META1 and zeros up to D into the image; -1 into the first cells, and in version 4 a 0 for
-// the first chunk of each task. Tests 2, 4, 5, 6, 21, 8, 9, 20 and 18, in this order. Of the byte stores into the image only the first `budget` are made.
-pub fn open_within(
+// An opening whose tests passed, of the file that the call means: META1 and zeros up to D into the image; -1 into the first cells, and in version 4 a
+// 0 for the first chunk of each task. Of the byte stores into the image only the first `budget` are made.
+pub fn begin(
+    file: File,
     plan: Plan,
     ranks: &[u64],
     sizes: &[u64],
@@ -240,21 +244,11 @@ pub fn open_within(
     table: &mut [i64],
     budget: u64,
 ) -> Opened
-    ensures { λ r. ⌜ r ≡ openAnswer (openingOf plan (now (ranks .entry)) (now (sizes .entry)) (now (prefix .entry))) (now (image .entry)) (now (table .entry)) ⌝ }
-    ensures { λ _. ⌜ now (image .exit) ≡ openFound (openingOf plan (now (ranks .entry)) (now (sizes .entry)) (now (prefix .entry))) (now (image .entry)) (now (table .entry)) budget ⌝ }
-    ensures { λ _. ⌜ now (table .exit) ≡ openTable (openingOf plan (now (ranks .entry)) (now (sizes .entry)) (now (prefix .entry))) (now (image .entry)) (now (table .entry)) ⌝ }
+    requires { ⌜ openRefusal (openingOf file plan (now ranks) (now sizes) (now prefix)) (length (now image)) (length (now table)) ≡ 0 ⌝ }
+    ensures { λ r. ⌜ r ≡ openAnswer (openingOf file plan (now (ranks .entry)) (now (sizes .entry)) (now (prefix .entry))) (now (image .entry)) (now (table .entry)) ⌝ }
+    ensures { λ _. ⌜ now (image .exit) ≡ openFound (openingOf file plan (now (ranks .entry)) (now (sizes .entry)) (now (prefix .entry))) (now (image .entry)) (now (table .entry)) budget ⌝ }
+    ensures { λ _. ⌜ now (table .exit) ≡ openTable (openingOf file plan (now (ranks .entry)) (now (sizes .entry)) (now (prefix .entry))) (now (image .entry)) (now (table .entry)) ⌝ }
 {
-    let refusal = open_refusal(
-        plan,
-        ranks,
-        sizes,
-        prefix,
-        image.len() as u64,
-        table.len() as u64,
-    );
-    if refusal != 0 {
-        return no_session(refusal);
-    }
     let head = Head {
         order: plan.order,
         version: plan.version,
@@ -262,6 +256,8 @@ pub fn open_within(
         format: plan.format,
         blocksize: plan.blocksize,
         n: ranks.len() as u32,
+        files: files::files_of(file),
+        file: files::number_of(file),
     };
     let begun = limits::least_count(plan.format);
     let lists = lists_of(ranks, sizes, begun);
@@ -278,6 +274,44 @@ pub fn open_within(
     }
 }
 
+// Opens a session of as many tasks as there are ranks. Tests 2, 4, 5, 6, 21, 8, 9, 20 and 18, in this order. Of the byte stores into the image only
+// the first `budget` are made.
+pub fn open_within(
+    plan: Plan,
+    ranks: &[u64],
+    sizes: &[u64],
+    prefix: &[u8],
+    image: &mut [u8],
+    table: &mut [i64],
+    budget: u64,
+) -> Opened
+    ensures { λ r. ⌜ r ≡ openAnswer (openingOf Single plan (now (ranks .entry)) (now (sizes .entry)) (now (prefix .entry))) (now (image .entry)) (now (table .entry)) ⌝ }
+    ensures { λ _. ⌜ now (image .exit) ≡ openFound (openingOf Single plan (now (ranks .entry)) (now (sizes .entry)) (now (prefix .entry))) (now (image .entry)) (now (table .entry)) budget ⌝ }
+    ensures { λ _. ⌜ now (table .exit) ≡ openTable (openingOf Single plan (now (ranks .entry)) (now (sizes .entry)) (now (prefix .entry))) (now (image .entry)) (now (table .entry)) ⌝ }
+{
+    let refusal = open_refusal(
+        plan,
+        ranks,
+        sizes,
+        prefix,
+        image.len() as u64,
+        table.len() as u64,
+    );
+    if refusal != 0 {
+        return no_session(refusal);
+    }
+    begin(
+        File::Single,
+        plan,
+        ranks,
+        sizes,
+        prefix,
+        image,
+        table,
+        budget,
+    )
+}
+
 // The same, with all of its stores.
 pub fn open(
     plan: Plan,
@@ -287,9 +321,9 @@ pub fn open(
     image: &mut [u8],
     table: &mut [i64],
 ) -> Opened
-    ensures { λ r. ⌜ r ≡ openAnswer (openingOf plan (now (ranks .entry)) (now (sizes .entry)) (now (prefix .entry))) (now (image .entry)) (now (table .entry)) ⌝ }
-    ensures { λ _. ⌜ now (image .exit) ≡ openImage (openingOf plan (now (ranks .entry)) (now (sizes .entry)) (now (prefix .entry))) (now (image .entry)) (now (table .entry)) ⌝ }
-    ensures { λ _. ⌜ now (table .exit) ≡ openTable (openingOf plan (now (ranks .entry)) (now (sizes .entry)) (now (prefix .entry))) (now (image .entry)) (now (table .entry)) ⌝ }
+    ensures { λ r. ⌜ r ≡ openAnswer (openingOf Single plan (now (ranks .entry)) (now (sizes .entry)) (now (prefix .entry))) (now (image .entry)) (now (table .entry)) ⌝ }
+    ensures { λ _. ⌜ now (image .exit) ≡ openImage (openingOf Single plan (now (ranks .entry)) (now (sizes .entry)) (now (prefix .entry))) (now (image .entry)) (now (table .entry)) ⌝ }
+    ensures { λ _. ⌜ now (table .exit) ≡ openTable (openingOf Single plan (now (ranks .entry)) (now (sizes .entry)) (now (prefix .entry))) (now (image .entry)) (now (table .entry)) ⌝ }
 {
     open_within(plan, ranks, sizes, prefix, image, table, limit::ENDLESS)
 }

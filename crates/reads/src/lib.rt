@@ -3,11 +3,14 @@ ghost use mathlib.Core.Path.{_≡_};
 ghost use Prim.Native.Nat.{_+_, _-_, _<_, _≤_, min};
 ghost use lib.ListN.{length, take, drop};
 ghost use Rattle.lists.specs.Splice.{splice};
+ghost use Rattle.format.specs.declared.head.File.the-variants.{Single};
+ghost use Rattle.format.specs.Record.{fileIn};
 ghost use Rattle.format.specs.declared.loaded.Loaded.{Loaded};
 ghost use Rattle.format.specs.declared.loaded.ByteCount.{ByteCount};
 ghost use Rattle.format.specs.Reads.{containerOf, streamOf, totalOf, totalAnswer, readAnswer, readOutput};
 ghost use Rattle.format.specs.Passed.{Readable};
 use format::head;
+use format::head::File;
 use format::head::LISTS;
 use format::loaded::ByteCount;
 use format::loaded::Loaded;
@@ -16,8 +19,8 @@ use stores::memory;
 
 // The bytes of a task that the tests allow, over all its chunks.
 fn total_of(l: Loaded, lists: &[u64], image: &[u8], table: &[i64], task: u64) -> u64
-    requires { ⌜ Readable (containerOf l (now lists) (now image) (now table)) task ⌝ }
-    ensures { λ r. ⌜ r ≡ totalOf (containerOf l (now (lists .entry)) (now (image .entry)) (now (table .entry))) task ⌝ }
+    requires { ⌜ Readable (containerOf (fileIn (l .head)) l (now lists) (now image) (now table)) task ⌝ }
+    ensures { λ r. ⌜ r ≡ totalOf (containerOf (fileIn (l .head)) l (now (lists .entry)) (now (image .entry)) (now (table .entry))) task ⌝ }
 {
     let n = l.head.n as usize;
     let i = (task - 1) as usize;
@@ -35,9 +38,9 @@ fn total_of(l: Loaded, lists: &[u64], image: &[u8], table: &[i64], task: u64) ->
 
 // A task's bytes over all its chunks.
 pub fn total(l: Loaded, lists: &[u64; LISTS], image: &[u8], table: &[i64], task: u64) -> ByteCount
-    ensures { λ r. ⌜ r ≡ totalAnswer (containerOf l (now (lists .entry)) (now (image .entry)) (now (table .entry))) task ⌝ }
+    ensures { λ r. ⌜ r ≡ totalAnswer (containerOf Single l (now (lists .entry)) (now (image .entry)) (now (table .entry))) task ⌝ }
 {
-    let refusal = chunks::read_refusal(l, lists, image, table, task);
+    let refusal = chunks::read_refusal(File::Single, l, lists, image, table, task);
     if refusal != 0 {
         return ByteCount { refusal, bytes: 0 };
     }
@@ -82,9 +85,9 @@ fn copy_stream(
     p: u64,
     out: &mut [u8],
 ) -> usize
-    requires { ⌜ Readable (containerOf l (now lists) (now image) (now table)) task ⌝ }
-    ensures { λ _. ⌜ now (out .exit) ≡ splice (now (out .entry)) 0 (take (length (now (out .entry))) (drop p (streamOf (containerOf l (now (lists .entry)) (now (image .entry)) (now (table .entry))) task))) ⌝ }
-    ensures { λ r. ⌜ r ≡ min (length (now (out .entry))) (totalOf (containerOf l (now (lists .entry)) (now (image .entry)) (now (table .entry))) task - p) ⌝ }
+    requires { ⌜ Readable (containerOf (fileIn (l .head)) l (now lists) (now image) (now table)) task ⌝ }
+    ensures { λ _. ⌜ now (out .exit) ≡ splice (now (out .entry)) 0 (take (length (now (out .entry))) (drop p (streamOf (containerOf (fileIn (l .head)) l (now (lists .entry)) (now (image .entry)) (now (table .entry))) task))) ⌝ }
+    ensures { λ r. ⌜ r ≡ min (length (now (out .entry))) (totalOf (containerOf (fileIn (l .head)) l (now (lists .entry)) (now (image .entry)) (now (table .entry))) task - p) ⌝ }
 {
     let i = (task - 1) as usize;
     let count = lists[head::COUNTS + i];
@@ -113,10 +116,10 @@ pub fn read(
     p: u64,
     out: &mut [u8],
 ) -> ByteCount
-    ensures { λ r. ⌜ r ≡ readAnswer (containerOf l (now (lists .entry)) (now (image .entry)) (now (table .entry))) task p (now (out .entry)) ⌝ }
-    ensures { λ _. ⌜ now (out .exit) ≡ readOutput (containerOf l (now (lists .entry)) (now (image .entry)) (now (table .entry))) task p (now (out .entry)) ⌝ }
+    ensures { λ r. ⌜ r ≡ readAnswer (containerOf Single l (now (lists .entry)) (now (image .entry)) (now (table .entry))) task p (now (out .entry)) ⌝ }
+    ensures { λ _. ⌜ now (out .exit) ≡ readOutput (containerOf Single l (now (lists .entry)) (now (image .entry)) (now (table .entry))) task p (now (out .entry)) ⌝ }
 {
-    let refusal = chunks::read_refusal(l, lists, image, table, task);
+    let refusal = chunks::read_refusal(File::Single, l, lists, image, table, task);
     if refusal != 0 {
         return ByteCount { refusal, bytes: 0 };
     }

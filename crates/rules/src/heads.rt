@@ -42,5 +42,7 @@ pub fn no_head() -> Head
         format: 0,
         blocksize: 0,
         n: 0,
+        files: 0,
+        file: 0,
     }
 }

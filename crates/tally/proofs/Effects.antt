@@ -167,12 +167,17 @@ module _ {b : Tallies} {st : State} (f : Own b st) (q : Request) where
     unfolding stored
     session-same = refl
 
+    file-same : stored st q .file ≡ st .file
+    unfolding stored
+    file-same = refl
+
     stored-simulates : length (stored st q .image) ≡ length (st .image)
         → Simulates (st .session) (sizeOf (st .lists)) (feed (termsAt st) b (fedOf q)) (stored st q)
     stored-simulates long =
         record {
           session-is = session-same;
           sizes-are = ap entry sizes-same;
+          file-suits = rw file-same (f .file-suits);
           not-closed = f .not-closed;
           sound = sound-agree (st .session .head) (stored st q .lists) (st .lists) ranks-same sizes-same ∙ f .sound;
           some = f .some;

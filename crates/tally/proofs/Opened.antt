@@ -12,6 +12,7 @@ use Rattle.format.specs.Limits.{maxTasks, blocksizeRule}
 use Rattle.format.specs.Meta1.{openingBytes}
 use Rattle.format.specs.Meta2.{valueIndex, unused, leastCount}
 use Rattle.format.specs.Record.{entry, cell, sizeOf, holds, startOf, endAt}
+use Rattle.format.proofs.Judging.{suits-holds}
 use Rattle.format.proofs.Filled.{entry-filled}
 use Rattle.format.proofs.Stripes.{length-lists, counts-made}
 use Rattle.format.proofs.Rules.{valueIndex-lt}
@@ -86,7 +87,7 @@ module _ (o : Opening) (image : List ℕ) (table : List ℤ) (accepted : openRef
         ∙ blank-unused begun (tasks o) (o .plan .planned) begun-planned _ (pos 0) (omega (arith, mul-le-mul-left (tasks o) l)) inside
 
   pub opened-simulates : Simulates (openSession o) (entry (o .sizes)) initial (opened o image table)
-  unfolding openSession openLists
+  unfolding openSession openHead openLists
   opened-simulates =
       let lists = opened-lists o image table accepted in
       let few : openHead o .n ≤ maxTasks = omega (arith, tasks-are, facts .plan .few-tasks) in
@@ -94,6 +95,7 @@ module _ (o : Opening) (image : List ℕ) (table : List ℤ) (accepted : openRef
       record {
         session-is = opened-session o image table accepted;
         sizes-are = ap sizeOf lists ∙ sizes-kept o (facts .plan);
+        file-suits = suits-holds (o .file) (openHead o) refl refl;
         not-closed = refl;
         sound = rw lists (opened-sound o (facts .plan));
         some = facts .plan .some;

@@ -18,16 +18,16 @@ use Rattle.tally.proofs.Share.{feed-keeps, reachable-initial, reachable
 
 -- the law of a layout: bytes of two chunks never share a block, and every chunk is inside the first M bytes
 pub record Layout (B M : ℕ) (p : Terms) : Type 0 where
-  pub apart : (s t k l i j : ℕ) → 1 ≤ s → s ≤ p .n → 1 ≤ t → t ≤ p .n → 1 ≤ k → k ≤ p .K → 1 ≤ l → l ≤ p .K → i < p .c s → j < p .c t
+  pub apart : (s t k l i j : ℕ) → p .named s ≡ true → p .named t ≡ true → 1 ≤ k → k ≤ p .K s → 1 ≤ l → l ≤ p .K t → i < p .c s → j < p .c t
       → (p .start s k + i) / B ≡ (p .start t l + j) / B → (s ≡ t) × (k ≡ l)
-  pub inside : (t k : ℕ) → 1 ≤ t → t ≤ p .n → 1 ≤ k → k ≤ p .K → p .start t k + p .c t ≤ M
+  pub inside : (t k : ℕ) → p .named t ≡ true → 1 ≤ k → k ≤ p .K t → p .start t k + p .c t ≤ M
 
 pub reachable-blank : (p : Terms) → AllReachable p initial
-reachable-blank p t = (0, reachable-initial (p .K) (p .c t))
+reachable-blank p t = (0, reachable-initial (p .K t) (p .c t))
 
 pub reachable-feed : (p : Terms) (b : Tallies) (a : Fed) → AllReachable p b → AllReachable p (feed p b a)
 reachable-feed p b a s t =
-    (_, feed-keeps p t (Reachable (p .K) (p .c t)) (reachable-own p t) b a (s t .0) (s t .1))
+    (_, feed-keeps p t (Reachable (p .K t) (p .c t)) (reachable-own p t) b a (s t .0) (s t .1))
 
 -- ---- the image after a write with this outcome, after a request, and after a list of them
 
@@ -48,10 +48,9 @@ imageAfter p b image (q ∷ qs) = imageAfter p (feed p b (fedOf q)) (storedIn p 
 
 -- byte i of chunk k of task t is one that the plan has
 pub record InChunk (p : Terms) (t k i : ℕ) : Type 0 where
-  pub low : 1 ≤ t
-  pub top : t ≤ p .n
+  pub named : p .named t ≡ true
   pub one : 1 ≤ k
-  pub all : k ≤ p .K
+  pub all : k ≤ p .K t
   pub fits : i < p .c t
 
 -- the tally of its task says that it has been written
@@ -89,10 +88,9 @@ pub record Spot (p : Terms) (b : Tallies) (q : Request) : Type 0 where
   pub accepted : answerTo (outcomeIn p b (fedOf q)) ≡ 0
   pub is : offsetIn p b q ≡ p .start (q .task) k + i
   pub lays : (image : List ℕ) → storedIn p b image q ≡ splice image (offsetIn p b q) (q .bytes)
-  pub low : 1 ≤ q .task
-  pub top : q .task ≤ p .n
+  pub named : p .named (q .task) ≡ true
   pub one : 1 ≤ k
-  pub all : k ≤ p .K
+  pub all : k ≤ p .K (q .task)
   pub fits : i + length (q .bytes) ≤ p .c (q .task)
   pub past : b (q .task) .u ≤ k
   pub free : k ≡ b (q .task) .u → b (q .task) .w ≤ i
@@ -108,16 +106,15 @@ module _ (p : Terms) (b : Tallies) (q : Request) (s : AllReachable p b) where
 
       go : {f : Outcome} → outcomeIn p b (fedOf q) ≡ f → View p (fedOf q) (b (q .task)) f → answerTo f ≡ 0 → Spot p b q
       go e (is-refused why) n = absurd (refused-some why n)
-      go e (is-empty _ _ none) n = absurd (omega arith)
-      go e (is-stays l h _ u f) n =
+      go e (is-empty _ none) n = absurd (omega arith)
+      go e (is-stays known _ u f) n =
           record {
             k = b (q .task) .u;
             i = b (q .task) .w;
             accepted = r;
             is = rw e;
             lays = λ image. rw e;
-            low = l;
-            top = h;
+            named = known;
             one = u;
             all = s (q .task) .1 .most;
             fits = f;
@@ -126,15 +123,14 @@ module _ (p : Terms) (b : Tallies) (q : Request) (s : AllReachable p b) where
             begun = rw (same, e) (omega arith);
             full = rw (same, e) (omega arith);
           }
-      go e (is-moves l h _ f u _) n =
+      go e (is-moves known _ f u _) n =
           record {
             k = b (q .task) .u + 1;
             i = 0;
             accepted = r;
             is = rw e (omega arith);
             lays = λ image. rw e;
-            low = l;
-            top = h;
+            named = known;
             one = omega arith;
             all = omega arith;
             fits = omega arith;
@@ -154,13 +150,13 @@ module _ (p : Terms) (b : Tallies) (q : Request) (s : AllReachable p b) where
 
       go : {f : Outcome} → outcomeIn p b (fedOf q) ≡ f → View p (fedOf q) (b (q .task)) f → P (storedIn p b image q)
       go e (is-refused _) = rw e x
-      go e (is-empty _ _ _) = rw e x
-      go e (is-stays _ _ some _ _) = put (rw e) some
-      go e (is-moves _ _ some _ _ _) = put (rw e) some
+      go e (is-empty _ _) = rw e x
+      go e (is-stays _ some _ _) = put (rw e) some
+      go e (is-moves _ some _ _ _) = put (rw e) some
 
 -- byte j of such a write is one that the plan has, and one that has been written afterwards
 spot-in : {p : Terms} {b : Tallies} {q : Request} (z : Spot p b q) (j : ℕ) → j < length (q .bytes) → InChunk p (q .task) (z .k) (z .i + j)
-spot-in z j l = record { low = z .low; top = z .top; one = z .one; all = z .all; fits = omega arith }
+spot-in z j l = record { named = z .named; one = z .one; all = z .all; fits = omega arith }
 
 spot-taken : {p : Terms} {b : Tallies} {q : Request} (z : Spot p b q) (j : ℕ) → j < length (q .bytes)
     → Taken (feed p b (fedOf q) (q .task)) (z .k) (z .i + j)
@@ -173,14 +169,14 @@ module _ (B M : ℕ) (p : Terms) (lo : Layout B M p) where
   -- two bytes in one block are bytes of one chunk
   apart-in : {s t k l i j : ℕ} → InChunk p s k i → InChunk p t l j → (p .start s k + i) / B ≡ (p .start t l + j) / B → (s ≡ t) × (k ≡ l)
   apart-in {s} {t} {k} {l} {i} {j} f g e =
-      lo .apart s t k l i j (f .low) (f .top) (g .low) (g .top) (f .one) (f .all) (g .one) (g .all) (f .fits) (g .fits) e
+      lo .apart s t k l i j (f .named) (g .named) (f .one) (f .all) (g .one) (g .all) (f .fits) (g .fits) e
 
   -- ---- one request
 
   -- an accepted write that has bytes fits in the image
   pub fits-of : {b : Tallies} {q : Request} (image : List ℕ) → M ≤ length image → Spot p b q
       → offsetIn p b q + length (q .bytes) ≤ length image
-  fits-of {q = q} image long z = omega (arith, lo .inside (q .task) (z .k) (z .low) (z .top) (z .one) (z .all))
+  fits-of {q = q} image long z = omega (arith, lo .inside (q .task) (z .k) (z .named) (z .one) (z .all))
 
   module _ (b : Tallies) (q : Request) (image : List ℕ) (long : M ≤ length image) (s : AllReachable p b) where
     length-stored : length (storedIn p b image q) ≡ length image
@@ -271,9 +267,9 @@ module _ (B M : ℕ) (p : Terms) (lo : Layout B M p) where
       go : {f : Outcome} → outcomeIn p b (fedOf q) ≡ f → View p (fedOf q) (b (q .task)) f
           → getD (storedIn p b m q) x 0 ≡ getD (storedIn p b m′ q) x 0
       go e (is-refused _) = rw e same
-      go e (is-empty _ _ _) = rw e same
-      go e (is-stays _ _ some _ _) = put (rw e) some
-      go e (is-moves _ _ some _ _ _) = put (rw e) some
+      go e (is-empty _ _) = rw e same
+      go e (is-stays _ some _ _) = put (rw e) some
+      go e (is-moves _ some _ _ _) = put (rw e) some
 
   pub same-after : (qs : List Request) (b : Tallies) (m m′ : List ℕ) (x : ℕ) → M ≤ length m → M ≤ length m′ → AllReachable p b
       → getD m x 0 ≡ getD m′ x 0 → getD (imageAfter p b m qs) x 0 ≡ getD (imageAfter p b m′ qs) x 0

@@ -59,18 +59,18 @@ moves-high : (u w c h l : ℕ) → (0 < u → h + c ≤ u * c + w) → (u ≡ 0 
 moves-high zero w c h l g f k = omega (arith, f refl)
 moves-high (suc v) w c h l g f k = rw (add-one, suc-mul (suc v) c) (omega (arith, g (omega arith)))
 
-reachable-step : (p : Terms) (a : Fed) (x : Tally) (h : ℕ) → Reachable (p .K) (p .c (a .task)) x h
-    → Reachable (p .K) (p .c (a .task)) (afterwards (outcome p a x) (a .L) x) (h + cond (eqb (answerTo (outcome p a x)) 0) (a .L) 0)
+reachable-step : (p : Terms) (a : Fed) (x : Tally) (h : ℕ) → Reachable (p .K (a .task)) (p .c (a .task)) x h
+    → Reachable (p .K (a .task)) (p .c (a .task)) (afterwards (outcome p a x) (a .L) x) (h + cond (eqb (answerTo (outcome p a x)) 0) (a .L) 0)
 reachable-step p a x h g = go (view p a x)
   where
-    go : {f : Outcome} → View p a x f → Reachable (p .K) (p .c (a .task)) (afterwards f (a .L) x) (h + cond (eqb (answerTo f) 0) (a .L) 0)
+    go : {f : Outcome} → View p a x f → Reachable (p .K (a .task)) (p .c (a .task)) (afterwards f (a .L) x) (h + cond (eqb (answerTo f) 0) (a .L) 0)
     go (is-refused (no-task _)) = rw add-zero g
-    go (is-refused (too-long _ _ _ _)) = rw add-zero g
-    go (is-refused (no-room _ _ _ _ _ _)) = rw add-zero g
-    go (is-empty _ _ e) = rw (e, add-zero) g
-    go (is-stays _ _ _ k l) =
+    go (is-refused (too-long _ _ _)) = rw add-zero g
+    go (is-refused (no-room _ _ _ _ _)) = rw add-zero g
+    go (is-empty _ e) = rw (e, add-zero) g
+    go (is-stays _ _ k l) =
         record { high = λ _. omega (arith, g .high k); fresh = λ e. absurd (omega arith); last = l; most = g .most }
-    go (is-moves _ _ _ l k m) =
+    go (is-moves _ _ l k m) =
         record {
           high = λ _. moves-high (x .u) (x .w) (p .c (a .task)) h (a .L) (g .high) (g .fresh) (g .last);
           fresh = λ e. absurd (omega arith);
@@ -79,13 +79,13 @@ reachable-step p a x h g = go (view p a x)
         }
 
 -- the same by a task's number
-pub reachable-own : (p : Terms) (task : ℕ) (a : Fed) (x : Tally) (h : ℕ) → a .task ≡ task → Reachable (p .K) (p .c task) x h
-    → Reachable (p .K) (p .c task) (afterwards (outcome p a x) (a .L) x) (h + cond (eqb (answerTo (outcome p a x)) 0) (a .L) 0)
-reachable-own p task a x h e g = rw (ap (p .c) e) at (reachable-step p a x h (rw (ap (p .c) e) g))
+pub reachable-own : (p : Terms) (task : ℕ) (a : Fed) (x : Tally) (h : ℕ) → a .task ≡ task → Reachable (p .K task) (p .c task) x h
+    → Reachable (p .K task) (p .c task) (afterwards (outcome p a x) (a .L) x) (h + cond (eqb (answerTo (outcome p a x)) 0) (a .L) 0)
+reachable-own p task a x h e g = rw (ap (p .K) e, ap (p .c) e) at (reachable-step p a x h (rw (ap (p .K) e, ap (p .c) e) g))
 
-pub reachable-all : (p : Terms) (task : ℕ) (qs : List Fed) (b : Tallies) (h : ℕ) → Reachable (p .K) (p .c task) (b task) h
-    → Reachable (p .K) (p .c task) (feedAll p b qs task) (h + held task qs (answers p b qs))
-reachable-all p task = all-keep p task (Reachable (p .K) (p .c task)) (reachable-own p task)
+pub reachable-all : (p : Terms) (task : ℕ) (qs : List Fed) (b : Tallies) (h : ℕ) → Reachable (p .K task) (p .c task) (b task) h
+    → Reachable (p .K task) (p .c task) (feedAll p b qs task) (h + held task qs (answers p b qs))
+reachable-all p task = all-keep p task (Reachable (p .K task) (p .c task)) (reachable-own p task)
 
 -- so a task holds no more than K times c
 pub at-most : {K c h : ℕ} {x : Tally} → Reachable K c x h → h ≤ K * c
@@ -116,11 +116,11 @@ share-step p u0 a x h g = go (view p a x)
   where
     go : {f : Outcome} → View p a x f → ShareInvariant (p .c (a .task)) u0 (afterwards f (a .L) x) (h + cond (eqb (answerTo f) 0) (a .L) 0)
     go (is-refused (no-task _)) = rw add-zero g
-    go (is-refused (too-long _ _ _ _)) = rw add-zero g
-    go (is-refused (no-room _ _ _ _ _ _)) = rw add-zero g
-    go (is-empty _ _ e) = rw (e, add-zero) g
-    go (is-stays _ _ _ k l) = record { since = g .since; low = omega (arith, g .low) }
-    go (is-moves _ _ _ l k m) =
+    go (is-refused (too-long _ _ _)) = rw add-zero g
+    go (is-refused (no-room _ _ _ _ _)) = rw add-zero g
+    go (is-empty _ e) = rw (e, add-zero) g
+    go (is-stays _ _ k l) = record { since = g .since; low = omega (arith, g .low) }
+    go (is-moves _ _ l k m) =
         let e : x .u + 1 - u0 ≡ suc (x .u - u0) = omega (arith, g .since) in
         record {
           since = omega (arith, g .since);
@@ -142,14 +142,14 @@ full (suc j) u c w h l k s g f = omega (arith, f (omega arith), mul-suc u c, mul
 
 -- refused for room only if twice the bytes exceed c times the chunks that were not begun at first
 pub refused-full : (p : Terms) (u0 : ℕ) (a : Fed) (x : Tally) (h : ℕ) → ShareInvariant (p .c (a .task)) u0 x h
-    → answerTo (outcome p a x) ≡ 16 → (p .K - u0) * p .c (a .task) < 2 * (h + a .L)
+    → answerTo (outcome p a x) ≡ 16 → (p .K (a .task) - u0) * p .c (a .task) < 2 * (h + a .L)
 refused-full p u0 a x h g = go (view p a x)
   where
-    go : {f : Outcome} → View p a x f → answerTo f ≡ 16 → (p .K - u0) * p .c (a .task) < 2 * (h + a .L)
+    go : {f : Outcome} → View p a x f → answerTo f ≡ 16 → (p .K (a .task) - u0) * p .c (a .task) < 2 * (h + a .L)
     go (is-refused (no-task _)) e = absurd (omega arith)
-    go (is-refused (too-long _ _ _ _)) e = absurd (omega arith)
-    go (is-refused (no-room _ _ s _ k m)) e =
-        full (p .K - u0) (x .u - u0) (p .c (a .task)) (x .w) h (a .L) (omega arith) s (g .low) (λ j. m (omega arith))
-    go (is-empty _ _ _) e = absurd (omega arith)
-    go (is-stays _ _ _ _ _) e = absurd (omega arith)
-    go (is-moves _ _ _ _ _ _) e = absurd (omega arith)
+    go (is-refused (too-long _ _ _)) e = absurd (omega arith)
+    go (is-refused (no-room _ s _ k m)) e =
+        full (p .K (a .task) - u0) (x .u - u0) (p .c (a .task)) (x .w) h (a .L) (omega arith) s (g .low) (λ j. m (omega arith))
+    go (is-empty _ _) e = absurd (omega arith)
+    go (is-stays _ _ _ _) e = absurd (omega arith)
+    go (is-moves _ _ _ _ _) e = absurd (omega arith)

@@ -10,13 +10,13 @@ use lib.IntN.{ℤ, pos}
 use lib.ListN.{length}
 use borrow.Author.Tests.{eqb-true, eqb-false}
 use Rattle.endian.specs.Signed.{within}
-use Rattle.endian.proofs.Signed.{within-holds}
+use Rattle.endian.proofs.Signed.{within-facts, within-holds}
 use Rattle.format.specs.Limits.{blocksizeRule}
 use Rattle.format.specs.Layout.{meta2End}
 use Rattle.format.proofs.Power.{blocksize-facts}
 use Rattle.format.proofs.Chunks.{same-block, chunk-before-meta2}
 use Rattle.format.specs.Meta2.{valueIndex}
-use Rattle.format.specs.Record.{entry, cell, countAt, holds, startOf, endAt}
+use Rattle.format.specs.Record.{entry, cell, countAt, isTask, holds, startOf, endAt}
 use Rattle.format.specs.declared.session.Session.{Session}
 use Rattle.format.specs.Session.{State}
 use Rattle.format.specs.Write.{Request, writeRefusal, afterWrite, writes, refusals}
@@ -24,6 +24,10 @@ use Rattle.format.specs.Tally.{Tallies, countBy, outcomeIn, answerTo, feed, fee
 use Rattle.tally.specs.Simulates.{termsIn, CellIs, Simulates}
 use Rattle.tally.proofs.Counts.{count-most}
 use Rattle.tally.proofs.Places.{Layout, storedIn, imageAfter}
+
+-- task i + 1 is one
+pub named-task : (n i : ℕ) → i < n → isTask n (i + 1) ≡ true
+named-task n i l = within-holds 1 n (i + 1) (omega arith) (omega arith)
 
 -- the chunks lie apart, and before the end of META2
 pub layout-of : (s : Session) (size : ℕ → ℕ) → blocksizeRule (pos (s .head .blocksize)) ≡ true
@@ -33,9 +37,12 @@ layout-of s size e =
     let h = s .head in
     let f = blocksize-facts (h .blocksize) e in
     record {
-      apart = λ r t k l i j r1 rn t1 tn k1 km l1 lm hi hj same.
+      apart = λ r t k l i j rn tn k1 km l1 lm hi hj same.
+          let (r1, rn) = within-facts 1 (h .n) r rn in
+          let (t1, tn) = within-facts 1 (h .n) t tn in
           same-block (h .blocksize) (h .n) size (omega arith) r t k l i j r1 rn t1 tn k1 l1 hi hj same;
-      inside = λ t k t1 tn k1 km.
+      inside = λ t k tn k1 km.
+          let (t1, tn) = within-facts 1 (h .n) t tn in
           omega (arith, chunk-before-meta2 (h .blocksize) (h .n) size t k (s .planned) t1 tn k1 km);
     }
 

@@ -33,7 +33,7 @@ module _ {b : Tallies} {st : State} (f : Own b st) where
   own-passes : firstFailing (sessionTests st) ≡ 0
   unfolding cellsAgree
   own-passes =
-      session-passes st (f .not-closed) (f .some) (record {
+      session-passes st (f .file-suits) (f .not-closed) (f .some) (record {
         head = f .sound;
         few = f .few;
         counts = λ i l. rw (f .counts-are i l) (count-least _ _, count-most _ _ (f .some) (f .reachable (i + 1) .1 .most));
@@ -131,12 +131,9 @@ module _ {b : Tallies} {st : State} (f : Own b st) where
         chunk-there : spot st q .chunk ≤ st .session .planned → writeRefusal st q ≡ 0
         chunk-there l = answer-chunk st q own-passes is-task some short ∙ rw (le-ltb (st .session .planned) (spot st q .chunk) l)
 
-    task-refused : (1 ≤ q .task → q .task ≤ st .session .head .n → ⊥) → writeRefusal st q ≡ 14
-    task-refused out = go (isTask (st .session .head .n) (q .task)) refl
-      where
-        go : (v : Bool) → isTask (st .session .head .n) (q .task) ≡ v → writeRefusal st q ≡ 14
-        go true e = let range = within-facts 1 (st .session .head .n) (q .task) e in absurd (out (range .0) (range .1))
-        go false e = answer-no-task st q own-passes e
+    -- a number that names a task
+    range : isTask (st .session .head .n) (q .task) ≡ true → (1 ≤ q .task) × (q .task ≤ st .session .head .n)
+    range e = within-facts 1 (st .session .head .n) (q .task) e
 
     -- what was the last chunk's cell is a used chunk's cell after the next chunk has begun
     used-before : (k : ℕ) (z : ℤ) → CellIs (capacityOf st q) count (b (q .task) .w) k z
@@ -159,14 +156,16 @@ module _ {b : Tallies} {st : State} (f : Own b st) where
             step-unchanged f q (number ∙ sym (ap answerTo e)) (rw e) (now (refused _) e) (refused-keeps st q (rw number some))
 
         go : {z : Outcome} → outcomeIn (termsAt st) b (fedOf q) ≡ z → View (termsAt st) (fedOf q) (b (q .task)) z → StepHolds b st q
-        go e (is-refused (no-task out)) = stays-so e (omega arith) (task-refused out)
-        go e (is-refused (too-long l h some long)) = stays-so e (omega arith) (answer-long st q own-passes (is-task l h) long)
-        go e (is-refused (no-room l h some fits k more)) =
+        go e (is-refused (no-task out)) = stays-so e (omega arith) (answer-no-task st q own-passes out)
+        go e (is-refused (too-long known some long)) = stays-so e (omega arith) (answer-long st q own-passes known long)
+        go e (is-refused (no-room known some fits k more)) =
+            let (l, h) = range known in
             let c : spot st q .chunk ≡ b (q .task) .u + 1 = ap (λ (x : Spot). x .chunk) (spot-moves l h fits more) in
             stays-so e (omega arith) (no-chunk l h some fits (omega arith))
-        go e (is-empty l h none) =
-            step-unchanged f q (answer-empty st q own-passes (is-task l h) none ∙ sym (ap answerTo e)) (rw e) (now empty e) (empty-keeps st q none)
-        go e (is-stays l h some k fits) =
+        go e (is-empty known none) =
+            step-unchanged f q (answer-empty st q own-passes known none ∙ sym (ap answerTo e)) (rw e) (now empty e) (empty-keeps st q none)
+        go e (is-stays known some k fits) =
+            let (l, h) = range known in
             let at = spot-stays l h k fits in
             let c : spot st q .chunk ≡ b (q .task) .u = ap (λ (x : Spot). x .chunk) at in
             let d : spot st q .from ≡ b (q .task) .w = ap (λ (x : Spot). x .from) at in
@@ -176,7 +175,8 @@ module _ {b : Tallies} {st : State} (f : Own b st) where
             let same = count-begun (st .session .head .format) (b (q .task)) k in
             record { used = λ y. x .used (omega arith); last = λ y. absurd (n y); none = λ y. x .none (omega arith) })
             (chunk-there l h some (omega arith) (omega arith)) (ap answerTo e) some (rw (e, c, d))
-        go e (is-moves l h some fits k more) =
+        go e (is-moves known some fits k more) =
+            let (l, h) = range known in
             let at = spot-moves l h fits more in
             let c : spot st q .chunk ≡ b (q .task) .u + 1 = ap (λ (x : Spot). x .chunk) at in
             let d : spot st q .from ≡ 0 = ap (λ (x : Spot). x .from) at in

@@ -31,7 +31,7 @@ use Rattle.tally.proofs.Cases.{View, is-refused, is-empty, is-stays, is
 use Rattle.tally.proofs.Counts.{count-begun, count-over, count-next, fresh-apart}
 use Rattle.tally.proofs.Places.{Layout, InChunk, Taken, stored-ways, storedIn, fits-of, kept, length-after}
 use Rattle.tally.specs.Simulates.{termsIn, Simulates, bytesIn, streamIn}
-use Rattle.tally.proofs.Simulating.{layout-of, used-fits}
+use Rattle.tally.proofs.Simulating.{named-task, layout-of, used-fits}
 use Rattle.tally.proofs.Steps.{step-simulates, cells-kept}
 
 -- how many bytes a chunk has, by n and the table
@@ -91,8 +91,7 @@ module _ {s : Session} {size : ℕ → ℕ} {b : Tallies} {st : State} (f : Simu
     in-chunk j l =
         let z : i + 1 - 1 ≡ i = omega arith in
         record {
-          low = omega arith;
-          top = omega arith;
+          named = named-task (s .head .n) i task;
           one = omega arith;
           all = omega (arith, there);
           fits = rw z (omega (arith, size-fits));
@@ -130,7 +129,7 @@ module _ (s : Session) (size : ℕ → ℕ) (M : ℕ) (lo : Layout (s .head .blo
         let z : i + 1 - 1 ≡ i = omega arith in
         let bytes : ℕ = bytesFor (s .head .n) (st .table) i k in
         let inside : startOf (s .head) size (i + 1) (k + 1) + holds (s .head) size i ≤ M =
-        rw z at (lo .inside (i + 1) (k + 1) (omega arith) (omega arith) (omega arith) (omega (arith, there f i k l u))) in
+        rw z at (lo .inside (i + 1) (k + 1) (named-task (s .head .n) i l) (omega arith) (omega (arith, there f i k l u))) in
         let fits : startOf (s .head) size (i + 1) (k + 1) + bytes ≤ length (st .image) = omega (arith, size-fits f i k l u) in
         bytes-are next i k
         ∙ rw (cells-kept f q i k l d, step-simulates f q .image-is)
@@ -170,13 +169,13 @@ module _ (s : Session) (size : ℕ → ℕ) (M : ℕ) (lo : Layout (s .head .blo
             ∙ ap (λ (z : Outcome). afterwards z (length (q .bytes)) (b (i + 1))) (ap (λ (t : ℕ). outcome terms (fedOf q) (b t)) (sym e) ∙ d)
 
         inside : (k : ℕ) → 1 ≤ k → k ≤ s .planned → startOf (s .head) size (i + 1) k + holds (s .head) size (q .task - 1) ≤ M
-        inside k k1 km = rw (ap (λ (t : ℕ). holds (s .head) size (t - 1)) e) (lo .inside (i + 1) k (omega arith) (omega arith) k1 km)
+        inside k k1 km = rw (ap (λ (t : ℕ). holds (s .head) size (t - 1)) e) (lo .inside (i + 1) k (named-task (s .head .n) i l) k1 km)
 
         go : {z : Outcome} → outcomeIn terms b (fedOf q) ≡ z → View terms (fedOf q) (b (q .task)) z → answerTo z ≡ 0
             → streamIn (afterWrite st q) i ≡ streamIn st i ++ q .bytes
         go d (is-refused why) n = absurd (refused-some why n)
-        go d (is-empty _ _ none) n = absurd (omega arith)
-        go d (is-stays low top _ u fits) n =
+        go d (is-empty _ none) n = absurd (omega arith)
+        go d (is-stays _ _ u fits) n =
             let m : ℕ = b (i + 1) .u - 1 in
             let last : m + 1 ≡ b (i + 1) .u = omega (arith, same-u) in
             let now = now stays d in
@@ -186,7 +185,7 @@ module _ (s : Session) (size : ℕ → ℕ) (M : ℕ) (lo : Layout (s .head .blo
             grows i m (b (i + 1) .w) l (ap (λ (x : Tally). x .u) now ∙ sym last) (ap (λ (x : Tally). x .w) now) (omega arith)
             (rw d (ap (λ (x : ℕ). splice (st .image) x (q .bytes)) at)) (omega (arith, same-w))
             ∙ ap (λ (x : List ℕ). x ++ q .bytes) (sym (stream-last f i m l last))
-        go d (is-moves low top _ fits u _) n =
+        go d (is-moves _ _ fits u _) n =
             let m : ℕ = b (i + 1) .u in
             let now = now moves d in
             let at : startOf (s .head) size (q .task) (b (q .task) .u + 1) ≡ startOf (s .head) size (i + 1) (m + 1) + 0 =

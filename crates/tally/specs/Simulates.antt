@@ -10,7 +10,7 @@ use Rattle.lists.specs.Below.{joinBelow}
 use Rattle.endian.specs.Signed.{natural}
 use Rattle.format.specs.Limits.{maxBlocks}
 use Rattle.format.specs.Meta2.{valueIndex, unused}
-use Rattle.format.specs.Record.{cell, allLists, sizeOf, countOf, holds, startOf, endAt, headSound}
+use Rattle.format.specs.Record.{cell, allLists, sizeOf, countOf, suits, isTask, holds, startOf, endAt, headSound}
 use Rattle.format.specs.declared.session.Session.{Session}
 use Rattle.format.specs.Session.{State}
 use Rattle.format.specs.Tally.{Terms, Tally, Tallies, countBy}
@@ -24,11 +24,17 @@ pub record Reachable (K c : ℕ) (x : Tally) (h : ℕ) : Type 0 where
   pub most : x .u ≤ K
 
 abbrev pub AllReachable : Terms → Tallies → Type 0
-AllReachable p b = (task : ℕ) → (h : ℕ) × Reachable (p .K) (p .c task) (b task) h
+AllReachable p b = (task : ℕ) → (h : ℕ) × Reachable (p .K task) (p .c task) (b task) h
 
 -- what the tally is fed of a session's numbers and sizes
 abbrev pub termsIn : Session → (ℕ → ℕ) → Terms
-termsIn s size = record { n = s .head .n; K = s .planned; c = λ task. holds (s .head) size (task - 1); start = startOf (s .head) size }
+termsIn s size =
+    record {
+      named = isTask (s .head .n);
+      K = λ task. s .planned;
+      c = λ task. holds (s .head) size (task - 1);
+      start = startOf (s .head) size;
+    }
 
 -- what the cell of chunk k + 1 of a task holds, where the task has so many chunks in use, the last of them with w bytes
 pub record CellIs (c count w k : ℕ) (z : ℤ) : Type 0 where
@@ -40,6 +46,7 @@ pub record CellIs (c count w k : ℕ) (z : ℤ) : Type 0 where
 pub record Simulates (s : Session) (size : ℕ → ℕ) (b : Tallies) (st : State) : Type 0 where
   pub session-is : st .session ≡ s
   pub sizes-are : sizeOf (st .lists) ≡ size
+  pub file-suits : suits (st .file) (s .head) ≡ true
   pub not-closed : s .closed ≡ 0
   pub sound : headSound (s .head) (st .lists) ≡ true
   pub some : 1 ≤ s .planned

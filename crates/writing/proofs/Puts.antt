@@ -24,7 +24,7 @@ pub record Puts (st : State) (q : Request) (d : Decision) : Type 0 where
   pub listed : valueIndex (st .session .head .n) (d .chunk - 1) (q .task - 1) < length (st .table)
   pub accepted : writeRefusal st q ≡ 0
   pub leaves : (b : ℕ) → writeFound st q b
-      ≡ stateOf (st .session) (withCount (st .lists) (q .task - 1) (d .chunk))
+      ≡ stateOf (st .file) (st .session) (withCount (st .lists) (q .task - 1) (d .chunk))
       (found b (st .image) (store (startOf (st .session .head) (sizeOf (st .lists)) (q .task) (d .chunk) + d .from) (q .bytes) ∷ []))
       (set (st .table) (valueIndex (st .session .head .n) (d .chunk - 1) (q .task - 1)) (pos (d .from + length (q .bytes))))
 

@@ -6,14 +6,16 @@ ghost use lib.ListN.{length};
 ghost use mathlib.Core.List.{[], _∷_};
 ghost use Rattle.lists.specs.Stores.{store, found};
 ghost use Rattle.format.specs.declared.head.Head.{Head};
+ghost use Rattle.format.specs.declared.head.File.the-variants.{Single};
 ghost use Rattle.format.specs.Refusals.{firstFailing};
-ghost use Rattle.format.specs.Record.{entry, allLists, startOf};
+ghost use Rattle.format.specs.Record.{entry, allLists, fileIn, startOf};
 ghost use Rattle.format.specs.declared.session.Session.{Session};
 ghost use Rattle.writing.specs.declared.Decision.{Decision};
 ghost use Rattle.format.specs.Session.{stateOf, sessionTests};
 ghost use Rattle.format.specs.Write.{requestOf, writeRefusal, afterWrite, writeFound};
 ghost use Rattle.writing.specs.Writing.{nextChunk, ChunkThere, decision};
 use format::head;
+use format::head::File;
 use format::head::Head;
 use format::head::LISTS;
 use format::limit;
@@ -64,9 +66,9 @@ fn place(
     bytes: &[u8],
 ) -> Decision
     requires { ⌜ length (now lists) ≡ allLists ⌝ }
-    requires { ⌜ firstFailing (sessionTests (stateOf s (now lists) (now image) (now table))) ≡ 0 ⌝ }
+    requires { ⌜ firstFailing (sessionTests (stateOf (fileIn (s .head)) s (now lists) (now image) (now table))) ≡ 0 ⌝ }
     requires { ⌜ (1 ≤ task) × (task ≤ s .head .n) × (0 < length (now bytes)) ⌝ }
-    ensures { λ r. ⌜ r ≡ decision (stateOf s (now (lists .entry)) (now (image .entry)) (now (table .entry))) (requestOf task (now (bytes .entry))) ⌝ }
+    ensures { λ r. ⌜ r ≡ decision (stateOf (fileIn (s .head)) s (now (lists .entry)) (now (image .entry)) (now (table .entry))) (requestOf task (now (bytes .entry))) ⌝ }
 {
     let i = (task - 1) as usize;
     let length = bytes.len() as u64;
@@ -101,8 +103,8 @@ fn decide(
     bytes: &[u8],
 ) -> Decision
     requires { ⌜ length (now lists) ≡ allLists ⌝ }
-    requires { ⌜ firstFailing (sessionTests (stateOf s (now lists) (now image) (now table))) ≡ 0 ⌝ }
-    ensures { λ r. ⌜ r ≡ decision (stateOf s (now (lists .entry)) (now (image .entry)) (now (table .entry))) (requestOf task (now (bytes .entry))) ⌝ }
+    requires { ⌜ firstFailing (sessionTests (stateOf (fileIn (s .head)) s (now lists) (now image) (now table))) ≡ 0 ⌝ }
+    ensures { λ r. ⌜ r ≡ decision (stateOf (fileIn (s .head)) s (now (lists .entry)) (now (image .entry)) (now (table .entry))) (requestOf task (now (bytes .entry))) ⌝ }
 {
     if task < 1 {
         return nothing(refusal::NO_TASK);
@@ -149,9 +151,9 @@ fn request(
     budget: u64,
 ) -> u32
     requires { ⌜ length (now lists) ≡ allLists ⌝ }
-    requires { ⌜ firstFailing (sessionTests (stateOf s (now lists) (now image) (now table))) ≡ 0 ⌝ }
-    ensures { λ r. ⌜ r ≡ writeRefusal (stateOf s (now (lists .entry)) (now (image .entry)) (now (table .entry))) (requestOf task (now (bytes .entry))) ⌝ }
-    ensures { λ _. ⌜ stateOf s (now (lists .exit)) (now (image .exit)) (now (table .exit)) ≡ writeFound (stateOf s (now (lists .entry)) (now (image .entry)) (now (table .entry))) (requestOf task (now (bytes .entry))) budget ⌝ }
+    requires { ⌜ firstFailing (sessionTests (stateOf (fileIn (s .head)) s (now lists) (now image) (now table))) ≡ 0 ⌝ }
+    ensures { λ r. ⌜ r ≡ writeRefusal (stateOf (fileIn (s .head)) s (now (lists .entry)) (now (image .entry)) (now (table .entry))) (requestOf task (now (bytes .entry))) ⌝ }
+    ensures { λ _. ⌜ stateOf (fileIn (s .head)) s (now (lists .exit)) (now (image .exit)) (now (table .exit)) ≡ writeFound (stateOf (fileIn (s .head)) s (now (lists .entry)) (now (image .entry)) (now (table .entry))) (requestOf task (now (bytes .entry))) budget ⌝ }
 {
     let d = decide(s, lists, image, table, task, bytes);
     let chunk = d.chunk;
@@ -186,10 +188,10 @@ pub fn write_within(
     bytes: &[u8],
     budget: u64,
 ) -> u32
-    ensures { λ r. ⌜ r ≡ writeRefusal (stateOf s (now (lists .entry)) (now (image .entry)) (now (table .entry))) (requestOf task (now (bytes .entry))) ⌝ }
-    ensures { λ _. ⌜ stateOf s (now (lists .exit)) (now (image .exit)) (now (table .exit)) ≡ writeFound (stateOf s (now (lists .entry)) (now (image .entry)) (now (table .entry))) (requestOf task (now (bytes .entry))) budget ⌝ }
+    ensures { λ r. ⌜ r ≡ writeRefusal (stateOf Single s (now (lists .entry)) (now (image .entry)) (now (table .entry))) (requestOf task (now (bytes .entry))) ⌝ }
+    ensures { λ _. ⌜ stateOf Single s (now (lists .exit)) (now (image .exit)) (now (table .exit)) ≡ writeFound (stateOf Single s (now (lists .entry)) (now (image .entry)) (now (table .entry))) (requestOf task (now (bytes .entry))) budget ⌝ }
 {
-    let refusal = records::session_refusal(s, lists, image, table);
+    let refusal = records::session_refusal(File::Single, s, lists, image, table);
     if refusal != 0 {
         return refusal;
     }
@@ -205,8 +207,8 @@ pub fn write(
     task: u64,
     bytes: &[u8],
 ) -> u32
-    ensures { λ r. ⌜ r ≡ writeRefusal (stateOf s (now (lists .entry)) (now (image .entry)) (now (table .entry))) (requestOf task (now (bytes .entry))) ⌝ }
-    ensures { λ _. ⌜ stateOf s (now (lists .exit)) (now (image .exit)) (now (table .exit)) ≡ afterWrite (stateOf s (now (lists .entry)) (now (image .entry)) (now (table .entry))) (requestOf task (now (bytes .entry))) ⌝ }
+    ensures { λ r. ⌜ r ≡ writeRefusal (stateOf Single s (now (lists .entry)) (now (image .entry)) (now (table .entry))) (requestOf task (now (bytes .entry))) ⌝ }
+    ensures { λ _. ⌜ stateOf Single s (now (lists .exit)) (now (image .exit)) (now (table .exit)) ≡ afterWrite (stateOf Single s (now (lists .entry)) (now (image .entry)) (now (table .entry))) (requestOf task (now (bytes .entry))) ⌝ }
 {
     write_within(s, lists, image, table, task, bytes, limit::ENDLESS)
 }

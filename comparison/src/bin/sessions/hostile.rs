@@ -29,12 +29,13 @@ fn spoil_record(session: &mut Session, rng: &mut Rng) {
     let Session { head, k } = session;
     let n = head.n as usize;
     let task = rng.below(n);
-    match rng.below(9) {
+    match rng.below(10) {
         0 => head.blocksize = rng.pick(&[0, 256, 768, 8_388_608]),
         1 => head.n = rng.pick(&[0, 65, u32::MAX]),
         2 => head.sizes[task] = rng.pick(&[0, 1_073_741_825, u64::MAX]),
         3 => head.counts[task] = u64::from(*k) + 1,
         4 => *k = rng.pick(&[0, 33, u32::MAX]),
+        5 => spoil_file(head, rng),
         _ => spoil_head(head, rng),
     }
 }
@@ -51,6 +52,13 @@ pub fn spoil_head(head: &mut Head, rng: &mut Rng) {
         4 if head.format == IDLE_FORMAT => head.counts[task] = 0,
         _ => head.ranks[task] = spoilt_rank(&head.ranks[..n], task, rng),
     }
+}
+
+/// nfiles and filenumber of another file than a single one: of none, of one of a pair, or of one that there cannot be.
+pub fn spoil_file(head: &mut Head, rng: &mut Rng) {
+    let most = u32::MAX;
+    let others = [(0, 0), (0, 1), (2, 0), (2, 1), (1, 1), (3, 2), (most, 0), (1, most)];
+    (head.files, head.file) = rng.pick(&others);
 }
 
 /// An image or a table that is too short.
@@ -140,7 +148,7 @@ fn any_cell(head: &Head, cells: usize, rng: &mut Rng) -> Cell {
 pub fn change_loaded(memory: &mut Memory, rng: &mut Rng) {
     let Memory { loaded: Loaded { head, maxchunks }, image, table, .. } = memory;
     let task = rng.below(head.n as usize);
-    match rng.below(14) {
+    match rng.below(15) {
         0 => head.closed = rng.pick(&[1, 7, u32::MAX]),
         1 => head.order = rng.pick(&[1 - head.order, 2]),
         2 => head.blocksize = rng.pick(&[768, 2 * head.blocksize]),
@@ -153,7 +161,8 @@ pub fn change_loaded(memory: &mut Memory, rng: &mut Rng) {
         9 => head.version = rng.number() as i32,
         10 => head.patch = rng.number() as i32,
         11 => head.format = rng.pick(&[5, 7 - head.format]),
-        12 if (head.n as usize) < TASKS => fill_behind(head, rng),
+        12 => spoil_file(head, rng),
+        13 if (head.n as usize) < TASKS => fill_behind(head, rng),
         _ if table.length == 0 => head.order = u32::MAX,
         _ if rng.one_in(3) => table.length -= 1,
         _ => {

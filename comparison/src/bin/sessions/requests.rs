@@ -1,7 +1,7 @@
 //! Holds the calls of an open session and of a loaded container, and the faults that they find.
 
 use crate::call::Call;
-use crate::hostile::{broken_cell, spoil_head};
+use crate::hostile::{broken_cell, spoil_file, spoil_head};
 use crate::memory::{Lent, Memory};
 use crate::plan::Plan;
 use crate::turns::{Input, Test};
@@ -28,7 +28,10 @@ pub const OF_LOADED: [Entry; 5] = [
     ("prefix", &[RECORD, LENT, CELL], |_, _| Call::Prefix),
 ];
 
-const RECORD: Test<Request> = &[("record", 17, |it, _, rng| spoil_head(it.head(), rng))];
+const RECORD: Test<Request> = &[
+    ("record", 17, |it, _, rng| spoil_head(it.head(), rng)),
+    ("file", 17, |it, _, rng| spoil_file(it.head(), rng)),
+];
 const LENT: Test<Request> = &[
     ("image", 18, |it, _, rng| {
         it.memory.image.length = rng.pick(&[0, 1088, it.memory.image.length - 1]);

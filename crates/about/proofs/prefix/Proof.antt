@@ -4,6 +4,7 @@ use Prim.Native.Nat.{ℕ, _+_, _≤_}
 use native.Mathlib.Omega.{arith}
 use lib.ListN.{length}
 use borrow.Author.Needs.{needs}
+use Rattle.format.specs.declared.head.File.the-variants.{Single}
 use Rattle.format.specs.Refusals.{firstFailing}
 use Rattle.format.specs.Layout.{meta1End, meta2Start, meta2End}
 use Rattle.format.specs.Record.{endAt}
@@ -29,7 +30,7 @@ inside c e =
 -- where the tests pass
 passes : (e : tie.Else1)
     → let a = e .before .before .before .before .args in
-    firstFailing (loadedTests (containerOf (a .l) (a .lists .now) (a .image .now) (a .table .now))) ≡ 0
+    firstFailing (loadedTests (containerOf Single (a .l) (a .lists .now) (a .image .now) (a .table .now))) ≡ 0
 passes e = sym (e .before .loaded-refusal .ensures) ∙ e .if1 .left
 
 loaded-refusal-requires : tie.Need-loaded-refusal-requires
@@ -40,7 +41,7 @@ unfolding prefixAnswer wholeRefusal
 returns c =
     let r = c .before .loaded-refusal .ensures in
     let a = c .before .before .before .before .args in
-    let refusal : ℕ = firstFailing (loadedTests (containerOf (a .l) (a .lists .now) (a .image .now) (a .table .now))) in
+    let refusal : ℕ = firstFailing (loadedTests (containerOf Single (a .l) (a .lists .now) (a .image .now) (a .table .now))) in
     (ap (λ (n : ℕ). record { refusal = n; start = 0; length = 0 }) r ∙ sym (when-refused refusal _ _ (omega (arith, r, c .if1 .taken))), omega arith)
 
 add-end : tie.Need-add-end

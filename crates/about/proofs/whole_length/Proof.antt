@@ -3,6 +3,7 @@ use mathlib.Core.Path.{_≡_, sym, ap, _∙_}
 use Prim.Native.Nat.{ℕ, _<_}
 use native.Mathlib.Omega.{arith}
 use borrow.Author.Needs.{needs}
+use Rattle.format.specs.declared.head.File.the-variants.{Single}
 use Rattle.format.specs.Refusals.{firstFailing}
 use Rattle.format.specs.Record.{sizeOf, endAt}
 use Rattle.format.specs.Reads.{Container, containerOf, loadedTests}
@@ -29,7 +30,7 @@ module _ (c : Container) where
 -- where the tests pass
 passes : (e : tie.Else1)
     → let a = e .before .before .before .before .args in
-    firstFailing (loadedTests (containerOf (a .l) (a .lists .now) (a .image .now) (a .table .now))) ≡ 0
+    firstFailing (loadedTests (containerOf Single (a .l) (a .lists .now) (a .image .now) (a .table .now))) ≡ 0
 passes e = sym (e .before .loaded-refusal .ensures) ∙ e .if1 .left
 
 loaded-refusal-requires : tie.Need-loaded-refusal-requires

@@ -9,6 +9,7 @@ use borrow.Author.Tests.{lt-leb}
 use lib.IntN.{pos}
 use Rattle.endian.specs.Signed.{within}
 use Rattle.endian.proofs.Signed.{within-holds, within-over}
+use Rattle.format.specs.declared.head.File.the-variants.{Single}
 use Rattle.format.specs.Limits.{maxTasks}
 use Rattle.format.specs.Refusals.{test, firstFailing}
 use Rattle.format.specs.Record.{entry, countAt}
@@ -26,7 +27,7 @@ start c = c .before .before .before
 
 -- what is read
 abbrev given : tie.Start → Container
-given s = let a = s .args in containerOf (a .l) (a .lists .now) (a .image .now) (a .table .now)
+given s = let a = s .args in containerOf Single (a .l) (a .lists .now) (a .image .now) (a .table .now)
 
 -- where the task may be read, its chunk is asked for, and its count stands among the lists
 passes : (e : tie.Else1) → let s = start (e .before) in firstFailing (readTests (given s) (s .args .task)) ≡ 0

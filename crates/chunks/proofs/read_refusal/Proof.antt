@@ -19,7 +19,7 @@ start c = c .before .before .before
 
 -- what is read
 abbrev given : tie.Start → Container
-given s = let a = s .args in containerOf (a .l) (a .lists .now) (a .image .now) (a .table .now)
+given s = let a = s .args in containerOf (a .file) (a .l) (a .lists .now) (a .image .now) (a .table .now)
 
 -- where tests 17, 18 and 19 pass, the task is asked for
 asked : (e : tie.Else1)

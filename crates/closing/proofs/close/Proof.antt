@@ -2,6 +2,7 @@
 use mathlib.Core.Path.{_∙_}
 use native.Mathlib.Omega.{arith}
 use borrow.Author.Needs.{needs}
+use Rattle.format.specs.declared.head.File.the-variants.{Single}
 use Rattle.format.specs.Session.{stateOf}
 use Rattle.format.proofs.Storing.{close-few, close-whole}
 use Rattle.closing.proofs.close.Statement.{statement}
@@ -17,7 +18,7 @@ returns : tie.Need-returns
 returns c =
     let w = c .before .before in
     let a = w .before .before .before .args in
-    let st = stateOf (a .s) (a .lists .now) (a .image .now) (a .table .now) in
+    let st = stateOf Single (a .s) (a .lists .now) (a .image .now) (a .table .now) in
     let done = w .close-within .ensures in
     (done .0, done .1 ∙ close-whole st _ (omega (arith, close-few st)))
 

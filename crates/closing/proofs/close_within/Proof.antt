@@ -3,6 +3,7 @@ use mathlib.Core.Path.{_≡_, sym, ap, _∙_}
 use Prim.Native.Nat.{ℕ, _<_}
 use native.Mathlib.Omega.{arith}
 use borrow.Author.Needs.{needs}
+use Rattle.format.specs.declared.head.File.the-variants.{Single}
 use Rattle.format.specs.Record.{sizeOf, endAt}
 use Rattle.format.specs.Passed.{Passed}
 use Rattle.format.proofs.Passing.{head-tasks, passed-fits, passed-used}
@@ -20,7 +21,7 @@ start c = c .before .before .before .before
 
 -- the session that is lent
 abbrev lent : tie.Start → State
-lent s = let a = s .args in stateOf (a .s) (a .lists .now) (a .image .now) (a .table .now)
+lent s = let a = s .args in stateOf Single (a .s) (a .lists .now) (a .image .now) (a .table .now)
 
 -- what the tests give
 passes : (e : tie.Else1) → closeRefusal (lent (start (e .before))) ≡ 0

@@ -38,7 +38,7 @@ returns c =
     let bytes =
     ap₂ (λ (v p : ℤ). versions (a .big) v p (h .format)) (toZ-ofZ {w = w32} {z = h .version} (sfits-of (told .1 .0 .1))) (toZ-ofZ {w = w32} {z = h .patch} (sfits-of (told .1 .1 .0 .1))) in
     let start = put-first xs 0 _ 20 (length-versions (a .big) (h .version) (h .patch) (h .format)) (first .put-versions .ensures ∙ ap (splice xs 0) bytes) in
-    put-then xs 0 _ _ 32 start (length-shape (a .big) (h .blocksize) (h .n)) (second .put-shape .ensures) (omega arith) .0
+    put-then xs 0 _ _ 32 start (length-shape (a .big) (h .blocksize) (h .n) (h .files) (h .file)) (second .put-shape .ensures) (omega arith) .0
     ∙ splice-over xs (firstFields (a .big) h) (length-first (a .big) h)
 
 pub first-fields-spec : {M : Type 1} → statement M

@@ -7,7 +7,6 @@ use lib.Seq.{length-take-le}
 use borrow.Author.Needs.{needs}
 use Rattle.endian.proofs.Number.{length-digits}
 use Rattle.lists.proofs.Splice.{splice-whole, put-first, put-then}
-use Rattle.format.specs.Meta1.{fileCount, fileNumber}
 use Rattle.emit.specs.Parts.{shape}
 use Rattle.emit.proofs.put_shape.Statement.{statement}
 use Rattle.emit.proofs.put_shape.Tie as tie
@@ -54,8 +53,8 @@ returns c =
     let wide = length-digits (a .big) 4 in
     let blocksize = put-first xs 20 _ 4 (wide (a .blocksize)) (first .put-u32 .ensures) in
     let tasks = put-then xs 20 _ _ 4 blocksize (wide (a .n)) (second .put-u322 .ensures) (omega (arith, z .pre)) in
-    let files = put-then xs 20 _ _ 4 tasks (wide fileCount) (third .put-u323 .ensures) (omega (arith, z .pre)) in
-    let number = put-then xs 20 _ _ 4 files (wide fileNumber) (fourth .put-u324 .ensures) (omega (arith, z .pre)) in
+    let files = put-then xs 20 _ _ 4 tasks (wide (a .files)) (third .put-u323 .ensures) (omega (arith, z .pre)) in
+    let number = put-then xs 20 _ _ 4 files (wide (a .file)) (fourth .put-u324 .ensures) (omega (arith, z .pre)) in
     let flags : length (take 16 (drop 36 ys)) ≡ 16 = length-take-le 16 (drop 36 ys) (simp length-drop (omega (
       arith,
       z .pre,

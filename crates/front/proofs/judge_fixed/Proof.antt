@@ -56,7 +56,7 @@ no-fixed-requires : tie.Need-no-fixed-requires
 no-fixed-requires c κs = search needs
 
 returns : tie.Need-returns
-returns c = c .no-fixed .ensures ∙ start-refused _ _ (c .before .before .before .judge-start .ensures) (c .before .if1 .taken)
+returns c = c .no-fixed .ensures ∙ start-refused _ _ _ (c .before .before .before .judge-start .ensures) (c .before .if1 .taken)
 
 get-u32-requires : tie.Need-get-u32-requires
 get-u32-requires c κs = omega (arith, long c)
@@ -76,7 +76,7 @@ no-fixed-requires-2 c κs = search needs
 returns-2 : tie.Need-returns-2
 returns-2 c =
     let f = c .before .before .before in
-    c .no-fixed2 .ensures ∙ fields-refused _ _ (started (f .before .before .before .before)) (f .judge-fields .ensures) (c .before .if2 .taken)
+    c .no-fixed2 .ensures ∙ fields-refused _ _ _ (started (f .before .before .before .before)) (f .judge-fields .ensures) (c .before .if2 .taken)
 
 cast-order : tie.Need-cast-order
 cast-order c = search needs
@@ -87,18 +87,25 @@ get-i32-requires c κs = omega (arith, long (c .before .before .before .before .
 get-i32-requires-2 : tie.Need-get-i32-requires-2
 get-i32-requires-2 c κs = omega (arith, long (c .before .before .before .before .before .before .before .before))
 
+files-of-requires : tie.Need-files-of-requires
+files-of-requires c κs = search needs
+
+number-of-requires : tie.Need-number-of-requires
+number-of-requires c κs = search needs
+
 returns-3 : tie.Need-returns-3
 returns-3 c =
-    let e = c .before .before .before .before in
+    let t = c .before .before in
+    let e = t .before .before .before .before in
     let f = e .before .before in
     let g = f .before in
     let s = g .before .before .before .before .before in
-    let version = toZ-ofZ {w = w32} (sfits-of (c .before .before .struct-told .given .0 .1)) ∙ (λ i. c .before .before .before .get-i32 .ensures i .value) in
-    let patch = toZ-ofZ {w = w32} (sfits-of (c .struct-told2 .given .0 .1)) ∙ (λ i. c .before .get-i322 .ensures i .value) in
-    fields-passed _ _ (started (g .before .before .before)) (f .judge-fields .ensures) (e .if2 .left)
+    let version = toZ-ofZ {w = w32} (sfits-of (t .before .before .struct-told .given .0 .1)) ∙ (λ i. t .before .before .before .get-i32 .ensures i .value) in
+    let patch = toZ-ofZ {w = w32} (sfits-of (t .struct-told2 .given .0 .1)) ∙ (λ i. t .before .get-i322 .ensures i .value) in
+    fields-passed _ _ _ (started (g .before .before .before)) (f .judge-fields .ensures) (e .if2 .left)
     ((λ i. headOf (order-number (s .judge-start .result .big) i) (version i) (patch i) (g .before .before .get-u32 .result .value)
-    (g .before .get-u322 .result .value) (g .get-u323 .result .value))
-    ∙ fields-read _ _ (read g) ((λ i. sym (f .judge-fields .ensures) i .refusal) ∙ e .if2 .left))
+    (g .before .get-u322 .result .value) (g .get-u323 .result .value) (c .before .files-of .ensures i) (c .number-of .ensures i))
+    ∙ fields-read _ _ _ (read g) ((λ i. sym (f .judge-fields .ensures) i .refusal) ∙ e .if2 .left))
 
 pub judge-fixed-spec : {M : Type 1} → statement M
 judge-fixed-spec =
@@ -116,4 +123,6 @@ judge-fixed-spec =
     cast-order
     get-i32-requires
     get-i32-requires-2
+    files-of-requires
+    number-of-requires
     returns-3)

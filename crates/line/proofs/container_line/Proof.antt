@@ -4,6 +4,7 @@ use Prim.Native.Nat.{_<_}
 use native.Mathlib.Omega.{arith}
 use lib.IntN.{pos}
 use lib.ListN.{replicate}
+use Rattle.format.specs.declared.head.File.the-variants.{Single}
 use Rattle.format.specs.Reads.{containerOf}
 use Rattle.format.specs.Line.{cells, decimal, space, spaced, lineRoom, totalsOf}
 use Rattle.lists.proofs.Splice.{put-next}
@@ -96,7 +97,7 @@ returns-2 c =
     (r .ensures .0, r .ensures .1 .0) (omega arith) in
     let first-three = put-next (a .out .now) 0 _ (space ∷ decimal (l .maxchunks)) first-two (q .ensures .0, q .ensures .1 .0) (omega arith) in
     let all =
-    put-next (a .out .now) 0 _ (spaced (totalsOf (containerOf l (j .result .lists) (a .image .now) (j .last .1 .0)))) first-three
+    put-next (a .out .now) 0 _ (spaced (totalsOf (containerOf Single l (j .result .lists) (a .image .now) (j .last .1 .0)))) first-three
     (s .ensures .0, s .ensures .1 .0) (omega (arith, given)) in
     line-put (a .image .now) (a .out .now)
     (accepted-line (a .image .now) (j .result) (j .last .1 .0) (j .ensures .0) (j .ensures .1) (e .if1 .left))

@@ -6,6 +6,7 @@ use native.Mathlib.Nat.{le-antisymm}
 use native.Mathlib.Omega.{arith}
 use lib.ListN.{length}
 use Rattle.lists.specs.Below.{listBelow, joinBelow}
+use Rattle.format.specs.declared.head.File.the-variants.{Single}
 use Rattle.format.specs.declared.loaded.ByteCount.{ByteCount}
 use Rattle.format.specs.Reads.{Container, containerOf, totalAnswer}
 use Rattle.format.specs.Line.{space, decimal, spaced, totalsOf}
@@ -24,7 +25,7 @@ Inv-loop l lists image table out₀ at n end₀ i₀ out end i =
     (i ≤ n)
     × (length out ≡ length out₀)
     × (end ≤ at + 21 * i)
-    × Put out₀ at (spaced (listBelow i (totals (containerOf l lists image table)))) out end
+    × Put out₀ at (spaced (listBelow i (totals (containerOf Single l lists image table)))) out end
 
 abbrev μ-loop : tie.MeasureT-loop
 μ-loop l lists image table out₀ at n end₀ i₀ out end i = n - i
@@ -71,7 +72,7 @@ loop-again c =
     let z = h .before .before .before .before in
     let a = z .args in
     let t = turn-taken .total in
-    let c₀ = containerOf (a .l) (a .lists .now) (a .image .now) (a .table .now) in
+    let c₀ = containerOf Single (a .l) (a .lists .now) (a .image .now) (a .table .now) in
     let p = c .before .before .put-spaced in (
       search needs,
       p .kept .0 ∙ l .inv .1,
@@ -90,7 +91,7 @@ unfolding totalsOf
 returns c =
     let l = c .before .loop in
     let a = c .before .before .before .before .before .args in
-    let f = totals (containerOf (a .l) (a .lists .now) (a .image .now) (a .table .now)) in
+    let f = totals (containerOf Single (a .l) (a .lists .now) (a .image .now) (a .table .now)) in
     let all = ap (λ (k : ℕ). spaced (listBelow k f)) (le-antisymm (l .inv .0) (c .loop-test .left)) in
     let p = put-is (a .out .now) (a .at) all (l .inv .3) in
     (p .0, (p .1, omega (arith, l .inv .0, l .inv .2)))

@@ -1,5 +1,5 @@
 -- META1's fixed fields, the rest of META1, the table's length, then META2.
-use mathlib.Core.Path.{refl, _∙_}
+use mathlib.Core.Path.{_≡_, refl, _∙_}
 use mathlib.Core.List.{List}
 use Prim.Native.Nat.{ℕ, _*_, _^_, _≤_, _<_}
 use native.Mathlib.Nat.{mul-le-mul}
@@ -7,8 +7,10 @@ use native.Mathlib.Omega.{arith}
 use borrow.Author.Needs.{needs}
 use lib.ListN.{length}
 use Rattle.format.specs.Limits.{maxTasks, maxBlocks}
+use Rattle.format.specs.Refusals.{firstFailing}
+use Rattle.format.specs.Judge.{fixedTests}
 use Rattle.front.specs.Judging.{HeadRead}
-use Rattle.loading.proofs.LoadAnswers.{head-read, refusedBy, refused-fixed, refused-rest, Found, found, sound, few, fits, refused-table, there, refused-meta2, accepted}
+use Rattle.loading.proofs.LoadAnswers.{read, fixed-passed, refusedBy, refused-fixed, refused-rest, Found, found, sound, few, fits, refused-table, there, refused-meta2, accepted}
 use Rattle.loading.proofs.check.Statement.{statement}
 use Rattle.loading.proofs.check.Tie as tie
 
@@ -36,20 +38,25 @@ short : (s : tie.Start) → length (s .args .image .now) < 2 ^ 64
 short s = search needs
 
 -- the head that the fixed fields gave
-read : (e : tie.Else1)
+head : (e : tie.Else1)
     → let f = e .before .before in
     let image = start f .args .image .now in
     HeadRead image (length image) (f .judge-fixed .result .head)
-read e = head-read _ (e .before .before .judge-fixed .ensures) (e .if1 .left)
+head e = read _ _ (e .before .before .judge-fixed .ensures) (e .if1 .left)
+
+passed : (e : tie.Else1)
+    → let a = start (e .before .before) .args in
+    firstFailing (fixedTests (a .image .now) (a .file) (length (a .image .now))) ≡ 0
+passed e = fixed-passed _ _ (e .before .before .judge-fixed .ensures) (e .if1 .left)
 
 -- what all of META1 gave
 known : (e : tie.Else2)
     → let j = rest e in
     let f = fixed j .before .before in
-    Found (start f .args .image .now) (f .judge-fixed .result .head) (j .judge-lists .result) (lists j)
+    Found (start f .args .file) (start f .args .image .now) (f .judge-fixed .result .head) (j .judge-lists .result) (lists j)
 known e =
     let j = rest e in
-    found (read (fixed j)) (j .judge-lists .ensures .0) (j .judge-lists .ensures .1) (e .if2 .left)
+    found (passed (fixed j)) (head (fixed j)) (j .judge-lists .ensures .0) (j .judge-lists .ensures .1) (e .if2 .left)
 
 judge-fixed-requires : tie.Need-judge-fixed-requires
 judge-fixed-requires c κs = λ k l m. l
@@ -58,13 +65,13 @@ no-container-requires : tie.Need-no-container-requires
 no-container-requires c κs = search needs
 
 returns : tie.Need-returns
-returns c = c .no-container .ensures ∙ refused-fixed _ _ (c .before .before .before .judge-fixed .ensures) (c .before .if1 .taken)
+returns c = c .no-container .ensures ∙ refused-fixed _ _ _ (c .before .before .before .judge-fixed .ensures) (c .before .if1 .taken)
 
 slice-aggregate-judge-lists : tie.Need-slice-aggregate-judge-lists
 slice-aggregate-judge-lists c = search needs
 
 judge-lists-requires : tie.Need-judge-lists-requires
-judge-lists-requires c κs = (read (c .before .before), refl)
+judge-lists-requires c κs = (head (c .before .before), refl)
 
 no-container-requires-2 : tie.Need-no-container-requires-2
 no-container-requires-2 c κs = search needs
@@ -72,7 +79,7 @@ no-container-requires-2 c κs = search needs
 returns-2 : tie.Need-returns-2
 returns-2 c =
     let j = c .before .before .before .before in
-    c .no-container2 .ensures ∙ refused-rest _ _ (read (fixed j)) (j .judge-lists .ensures .0) (c .before .if2 .taken)
+    c .no-container2 .ensures ∙ refused-rest _ _ _ (passed (fixed j)) (j .judge-lists .ensures .0) (c .before .if2 .taken)
 
 cast-needed : tie.Need-cast-needed
 cast-needed c = search needs
@@ -104,7 +111,7 @@ meta2-length-requires : tie.Need-meta2-length-requires
 meta2-length-requires c κs = let f = known (c .before .before) in (sound f .tasks, few f)
 
 add-end : tie.Need-add-end
-add-end c = omega (arith, fits (known (room c)), c .meta2-length .ensures)
+add-end c = omega (arith, fits (known (room c)), c .meta2-length .ensures, short (start (fixed (rest (room c)) .before .before)))
 
 sub-judge : tie.Need-sub-judge
 sub-judge c = search needs

@@ -13,10 +13,10 @@ check-requires c κs = search needs
 
 returns : tie.Need-returns
 unfolding loadAnswer
-returns c = let e = c .before .check .ensures in (e, table-kept _ _ e (c .if1 .taken))
+returns c = let e = c .before .check .ensures in (e, table-kept _ _ _ e (c .if1 .taken))
 
 fill-requires : tie.Need-fill-requires
-fill-requires c κs = let e = accepted c in fillable _ _ (e .before .check .ensures) (e .if1 .left)
+fill-requires c κs = let e = accepted c in fillable _ _ _ (e .before .check .ensures) (e .if1 .left)
 
 same-length : tie.Need-same-length
 same-length c = search needs
@@ -26,7 +26,7 @@ unfolding loadAnswer
 returns-2 c =
     let f = c .before in
     let e = accepted (f .before) in
-    (e .before .check .ensures, table-filled _ _ (e .before .check .ensures) (e .if1 .left) (f .fill .ensures))
+    (e .before .check .ensures, table-filled _ _ _ (e .before .check .ensures) (e .if1 .left) (f .fill .ensures))
 
 pub load-spec : {M : Type 1} → statement M
 load-spec = tie.close (tie.spec check-requires returns fill-requires same-length returns-2)

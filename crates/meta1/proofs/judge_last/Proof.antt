@@ -19,7 +19,7 @@ use Rattle.format.specs.Layout.{meta1End, meta2End}
 use Rattle.format.proofs.Chunks.{meta2End-small}
 use Rattle.format.specs.Record.{entry, isBig, meta2At, endAt}
 use Rattle.format.proofs.Fields.{maxchunks-facts}
-use Rattle.meta1.proofs.Answers.{head-long, LastRead, not-closed, bad-maxchunks, start-wrong, past-end, accepted-last}
+use Rattle.meta1.proofs.Answers.{LastRead, not-closed, bad-maxchunks, start-wrong, past-end, accepted-last}
 use Rattle.meta1.proofs.judge_last.Statement.{statement}
 use Rattle.meta1.proofs.judge_last.Tie as tie
 
@@ -32,7 +32,7 @@ long : (s : tie.Start) → meta1End (s .args .h .n) ≤ length (s .args .xs .now
 unfolding meta1End
 long s =
     let few = s .pre .sound .tasks in
-    s .pre .head .covers (meta1End (s .args .h .n)) (head-long (s .pre .head)) (omega arith)
+    s .pre .head .covers (meta1End (s .args .h .n)) (s .pre .head .long) (omega arith)
 
 -- the two numbers that are read
 abbrev start : tie.After-last-at → tie.Start

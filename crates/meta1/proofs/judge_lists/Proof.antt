@@ -14,7 +14,6 @@ use Rattle.format.specs.Meta1.{fixedLength}
 use Rattle.format.specs.Record.{allLists, isBig, noLists}
 use Rattle.meta1.specs.Judging.{listsRead}
 use Rattle.format.proofs.Stripes.{lists-put, length-ranked}
-use Rattle.meta1.proofs.Answers.{few-tasks, head-long}
 use Rattle.meta1.proofs.judge_lists.Statement.{statement}
 use Rattle.meta1.proofs.judge_lists.Tie as tie
 
@@ -25,8 +24,8 @@ start c = c .before .before .before .before .before
 long : (s : tie.Start) → meta1End (s .args .h .n) ≤ length (s .args .xs .now)
 unfolding meta1End
 long s =
-    let few = few-tasks (s .pre .0) in
-    s .pre .0 .covers (meta1End (s .args .h .n)) (head-long (s .pre .0)) (omega arith)
+    let few = s .pre .0 .few in
+    s .pre .0 .covers (meta1End (s .args .h .n)) (s .pre .0 .long) (omega arith)
 
 lists-long : (s : tie.Start) → length (s .args .lists .now) ≡ allLists
 lists-long s = ap length (s .pre .1) ∙ length-replicate {A = ℕ} allLists 0
@@ -47,7 +46,7 @@ ranked r = let s = start (r .before) in rw (← s .pre .1) (r .read-stripe .ensu
 ranked-long : (r : tie.After-read-stripe) → length (r .read-stripe .last .0) ≡ allLists
 ranked-long r =
     let s = start (r .before) in
-    ap length (ranked r) ∙ length-ranked (s .args .h .n) (rank s) (size s) (few-tasks (s .pre .0))
+    ap length (ranked r) ∙ length-ranked (s .args .h .n) (rank s) (size s) (s .pre .0 .few)
 
 abbrev first : tie.After-sizes-at → tie.After-read-stripe
 first c = c .before .before .before .before
@@ -62,7 +61,7 @@ filled c =
     c .read-stripe2 .ensures
     ∙ ap₂ (λ (lists : List ℕ) (at : ℕ). splice lists maxTasks (listBelow n (λ i. numberAt (isBig (s .args .h)) 8 (s .args .xs .now) (at + 8 * i))))
     (ranked (first (c .before))) (c .before .sizes-at .ensures)
-    ∙ lists-put n (rank s) (size s) (few-tasks (s .pre .0))
+    ∙ lists-put n (rank s) (size s) (s .pre .0 .few)
 
 cast-n : tie.Need-cast-n
 cast-n c = search needs
@@ -71,16 +70,16 @@ read-stripe-requires : tie.Need-read-stripe-requires
 unfolding meta1End
 read-stripe-requires c κs =
     let s = start c in
-    (omega (arith, few-tasks (s .pre .0), lists-long s), omega (arith, long s))
+    (omega (arith, s .pre .0 .few, lists-long s), omega (arith, long s))
 
 sizes-at-requires : tie.Need-sizes-at-requires
-sizes-at-requires c κs = few-tasks (start (c .before .before .before .before) .pre .0)
+sizes-at-requires c κs = start (c .before .before .before .before) .pre .0 .few
 
 read-stripe-requires-2 : tie.Need-read-stripe-requires-2
 unfolding meta1End
 read-stripe-requires-2 c κs =
     let s = start (first c .before) in
-    (omega (arith, ranked-long (first c), few-tasks (s .pre .0)), omega (arith, long s, c .sizes-at .ensures))
+    (omega (arith, ranked-long (first c), s .pre .0 .few), omega (arith, long s, c .sizes-at .ensures))
 
 judge-read-requires : tie.Need-judge-read-requires
 judge-read-requires c κs =

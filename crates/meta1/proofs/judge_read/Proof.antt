@@ -12,7 +12,7 @@ use Rattle.format.specs.Layout.{meta1End}
 use Rattle.format.specs.Record.{allLists, isBig}
 use Rattle.format.specs.Refusals.{faultOf}
 use Rattle.format.proofs.Stripes.{length-ranks, length-sizes}
-use Rattle.meta1.proofs.Answers.{few-tasks, head-long, read-long, bad-rank, bad-size, lists-pass}
+use Rattle.meta1.proofs.Answers.{read-long, bad-rank, bad-size, lists-pass}
 use Rattle.meta1.proofs.judge_read.Statement.{statement}
 use Rattle.meta1.proofs.judge_read.Tie as tie
 
@@ -26,8 +26,8 @@ start c = c .before .before .before .before .before
 whole : (s : tie.Start) → meta1End (s .args .h .n) ≤ length (s .args .xs .now)
 unfolding meta1End
 whole s =
-    let few = few-tasks (s .pre .0) in
-    s .pre .0 .covers (meta1End (s .args .h .n)) (head-long (s .pre .0)) (omega arith)
+    let few = s .pre .0 .few in
+    s .pre .0 .covers (meta1End (s .args .h .n)) (s .pre .0 .long) (omega arith)
 
 cast-n : tie.Need-cast-n
 cast-n c = search needs
@@ -36,19 +36,19 @@ slice-aggregate-first-bad-rank : tie.Need-slice-aggregate-first-bad-rank
 slice-aggregate-first-bad-rank c = sym (length-ranks (start c .args .lists .now) (long (start c)))
 
 first-bad-rank-requires : tie.Need-first-bad-rank-requires
-first-bad-rank-requires c κs = omega (arith, few-tasks (start c .pre .0), length-ranks (start c .args .lists .now) (long (start c)))
+first-bad-rank-requires c κs = omega (arith, start c .pre .0 .few, length-ranks (start c .args .lists .now) (long (start c)))
 
 mul-at : tie.Need-mul-at
-mul-at c = omega (arith, few-tasks (start (c .before .before) .pre .0))
+mul-at c = omega (arith, start (c .before .before) .pre .0 .few)
 
 add-at : tie.Need-add-at
-add-at c = omega (arith, few-tasks (start (c .before .before) .pre .0))
+add-at c = omega (arith, start (c .before .before) .pre .0 .few)
 
 bad-entry-requires : tie.Need-bad-entry-requires
 unfolding meta1End
 bad-entry-requires c κs =
     let s = start (c .before .before) in
-    (omega (arith, whole s), omega (arith, few-tasks (s .pre .0)), omega arith, omega arith)
+    (omega (arith, whole s), omega (arith, s .pre .0 .few), omega arith, omega arith)
 
 returns : tie.Need-returns
 returns c =
@@ -69,24 +69,24 @@ part-sizes-end c = omega (arith, long (start (c .before .before)))
 first-bad-size-requires : tie.Need-first-bad-size-requires
 first-bad-size-requires c κs =
     let s = start (c .before .before .before) in
-    omega (arith, few-tasks (s .pre .0), length-sizes (s .args .lists .now) (long s))
+    omega (arith, s .pre .0 .few, length-sizes (s .args .lists .now) (long s))
 
 sizes-at-requires : tie.Need-sizes-at-requires
-sizes-at-requires c κs = few-tasks (start (c .before .before .before .before .before) .pre .0)
+sizes-at-requires c κs = start (c .before .before .before .before .before) .pre .0 .few
 
 mul-at-2 : tie.Need-mul-at-2
-mul-at-2 c = omega (arith, few-tasks (start (c .before .before .before .before .before .before) .pre .0))
+mul-at-2 c = omega (arith, start (c .before .before .before .before .before .before) .pre .0 .few)
 
 add-at-2 : tie.Need-add-at-2
 add-at-2 c =
     let s = start (c .before .before .before .before .before .before) in
-    omega (arith, c .sizes-at .ensures, few-tasks (s .pre .0))
+    omega (arith, c .sizes-at .ensures, s .pre .0 .few)
 
 bad-entry-requires-2 : tie.Need-bad-entry-requires-2
 unfolding meta1End
 bad-entry-requires-2 c κs =
     let s = start (c .before .before .before .before .before .before) in
-    (omega (arith, whole s, c .sizes-at .ensures), omega (arith, few-tasks (s .pre .0)), omega arith, omega arith)
+    (omega (arith, whole s, c .sizes-at .ensures), omega (arith, s .pre .0 .few), omega arith, omega arith)
 
 returns-2 : tie.Need-returns-2
 returns-2 c =

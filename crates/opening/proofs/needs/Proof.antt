@@ -5,6 +5,7 @@ use native.Mathlib.Nat.{mul-le-mul}
 use native.Mathlib.Omega.{arith}
 use lib.ListN.{length}
 use borrow.Author.Needs.{needs}
+use Rattle.format.specs.declared.head.File.the-variants.{Single}
 use Rattle.format.specs.Refusals.{firstFailing}
 use Rattle.format.specs.Open.{Opening, openingOf, planTests, needsAnswer}
 use Rattle.format.proofs.Opening.{PlanHolds, plan-holds, plan-sound, plan-shape, plan-number, shape-listed, needs-refused, needs-lengths}
@@ -16,7 +17,7 @@ start c = c .before .before .before .before
 
 -- what the opening is given
 abbrev given : tie.Start → Opening
-given s = let a = s .args in openingOf (a .plan) (a .ranks .now) (a .sizes .now) (a .prefix .now)
+given s = let a = s .args in openingOf Single (a .plan) (a .ranks .now) (a .sizes .now) (a .prefix .now)
 
 -- a number of the plan's tests, beside two zeros
 refused : (o : Opening) → (r : ℕ) → r ≡ firstFailing (planTests o) → 0 < r → record { refusal = r; image = 0; cells = 0 } ≡ needsAnswer o

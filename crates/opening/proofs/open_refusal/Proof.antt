@@ -4,6 +4,7 @@ use mathlib.Core.Logic.{_⊎_, inl, inr}
 use Prim.Native.Nat.{ℕ, _<_, _≤_}
 use native.Mathlib.Omega.{arith}
 use borrow.Author.Needs.{needs}
+use Rattle.format.specs.declared.head.File.the-variants.{Single}
 use Rattle.format.specs.declared.session.Needed.{Needed}
 use Rattle.format.specs.Open.{Opening, openingOf, needsAnswer, openRefusal}
 use Rattle.format.proofs.Opening.{open-plan, open-short, open-enough}
@@ -30,7 +31,7 @@ start c = c .before .before .before .before
 
 -- what the opening is given
 abbrev given : tie.Start → Opening
-given s = let a = s .args in openingOf (a .plan) (a .ranks .now) (a .sizes .now) (a .prefix .now)
+given s = let a = s .args in openingOf Single (a .plan) (a .ranks .now) (a .sizes .now) (a .prefix .now)
 
 needs-requires : tie.Need-needs-requires
 needs-requires c κs = search needs

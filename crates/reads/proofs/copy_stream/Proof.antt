@@ -9,7 +9,7 @@ use Rattle.lists.specs.Below.{joinBelow}
 use Rattle.lists.specs.Splice.{splice}
 use Rattle.lists.proofs.Below.{join-more}
 use Rattle.format.specs.Limits.{maxTasks}
-use Rattle.format.specs.Record.{entry, countAt}
+use Rattle.format.specs.Record.{fileIn, entry, countAt}
 use Rattle.format.specs.Reads.{Container, containerOf, chunksUsed, chunkBytes, streamOf, totalOf}
 use Rattle.format.proofs.Readable.{used-few, read-listed, read-counted}
 use Rattle.format.proofs.Stream.{stream-length}
@@ -27,7 +27,7 @@ whole c task k e = ap (before c task) e
 
 abbrev Inv-loop : tie.InvT-loop
 Inv-loop l lists image table task p out₀ i count skip₀ done₀ k₀ out skip done k =
-    (k ≤ count) × Copied out₀ (before (containerOf l lists image table) task k) p out skip done
+    (k ≤ count) × Copied out₀ (before (containerOf (fileIn (l .head)) l lists image table) task k) p out skip done
 
 abbrev μ-loop : tie.MeasureT-loop
 μ-loop l lists image table task p out₀ i count skip₀ done₀ k₀ out skip done k = count - k
@@ -37,7 +37,7 @@ start c = c .before .before .before .before .before
 
 -- what the tests give, at the start
 abbrev given : tie.Start Inv-loop μ-loop → Container
-given z = let a = z .args in containerOf (a .l) (a .lists .now) (a .image .now) (a .table .now)
+given z = let a = z .args in containerOf (fileIn (a .l .head)) (a .l) (a .lists .now) (a .image .now) (a .table .now)
 
 listed : (z : tie.Start Inv-loop μ-loop) → z .args .task - 1 < maxTasks
 listed z = read-listed (z .pre)

@@ -7,10 +7,12 @@ use lib.ListN.{length, take, drop}
 use borrow.Author.Needs.{needs}
 use borrow.Author.Tests.{lt-ltb, le-ltb}
 use Rattle.lists.specs.Splice.{splice}
+use Rattle.format.specs.Record.{fileIn}
+use Rattle.format.specs.declared.head.File.the-variants.{Single}
 use Rattle.format.specs.Refusals.{firstFailing}
 use Rattle.format.proofs.Refusals.{first-passes, first-fails, when-accepted, when-refused}
 use Rattle.format.specs.Reads.{Container, containerOf, readTests, streamOf, totalOf, readRefusal, readAnswer, readOutput}
-use Rattle.format.proofs.Readable.{read-numbered, readable}
+use Rattle.format.proofs.Readable.{read-numbered, readable, read-file}
 use Rattle.format.proofs.Stream.{counted}
 use Rattle.reads.proofs.read.Statement.{statement}
 use Rattle.reads.proofs.read.Tie as tie
@@ -46,8 +48,12 @@ module _ (c : Container) (task p : ℕ) where
 -- where the tests pass
 passes : (e : tie.Else1)
     → let a = e .before .before .before .before .before .args in
-    firstFailing (readTests (containerOf (a .l) (a .lists .now) (a .image .now) (a .table .now)) (a .task)) ≡ 0
+    firstFailing (readTests (containerOf Single (a .l) (a .lists .now) (a .image .now) (a .table .now)) (a .task)) ≡ 0
 passes e = sym (e .before .read-refusal .ensures) ∙ e .if1 .left
+
+-- and the record is of the file that it says it is
+own : (e : tie.Else1) → fileIn (e .before .before .before .before .before .args .l .head) ≡ Single
+own e = read-file _ _ (passes e)
 
 read-refusal-requires : tie.Need-read-refusal-requires
 read-refusal-requires c κs = search needs
@@ -56,13 +62,13 @@ returns : tie.Need-returns
 returns c = refused _ _ _ _ _ (tests-fail _ _ _ _ (c .before .read-refusal .ensures) (search needs)) (search needs)
 
 total-of-requires : tie.Need-total-of-requires
-total-of-requires c κs = readable _ _ (search needs) (passes (c .before))
+total-of-requires c κs = rw (own (c .before)) (readable _ _ (search needs) (passes (c .before)))
 
 returns-2 : tie.Need-returns-2
-returns-2 c = refused _ _ _ _ _ (past-total _ _ _ _ (passes (c .before .before .before)) (c .before .total-of .ensures) (c .if2 .taken)) (omega arith)
+returns-2 c = refused _ _ _ _ _ (past-total _ _ _ _ (passes (c .before .before .before)) (rw (own (c .before .before .before)) at (c .before .total-of .ensures)) (c .if2 .taken)) (omega arith)
 
 copy-stream-requires : tie.Need-copy-stream-requires
-copy-stream-requires c κs = readable _ _ (search needs) (passes (c .before .before .before .before .before))
+copy-stream-requires c κs = let e = c .before .before .before .before .before in rw (own e) (readable _ _ (search needs) (passes e))
 
 same-length : tie.Need-same-length
 same-length c = search needs
@@ -72,8 +78,9 @@ returns-3 c =
     let copied = c .before .before in
     let s = copied .before .before .before in
     let total = s .before in
-    accepted _ _ _ _ _ _ (in-total _ _ _ _ (passes (total .before .before)) (total .total-of .ensures) (s .if2 .left))
-    (copied .copy-stream .ensures .0) (copied .copy-stream .ensures .1)
+    let e = total .before .before in
+    let done = rw (own e) at (copied .copy-stream .ensures) in
+    accepted _ _ _ _ _ _ (in-total _ _ _ _ (passes e) (rw (own e) at (total .total-of .ensures)) (s .if2 .left)) (done .0) (done .1)
 
 pub read-spec : {M : Type 1} → statement M
 read-spec =

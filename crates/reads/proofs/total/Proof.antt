@@ -3,10 +3,12 @@ use mathlib.Core.Path.{_≡_, sym, ap, _∙_}
 use Prim.Native.Nat.{ℕ, _<_}
 use native.Mathlib.Omega.{arith}
 use borrow.Author.Needs.{needs}
+use Rattle.format.specs.Record.{fileIn}
+use Rattle.format.specs.declared.head.File.the-variants.{Single}
 use Rattle.format.specs.Refusals.{firstFailing}
 use Rattle.format.proofs.Refusals.{when-accepted, when-refused}
 use Rattle.format.specs.Reads.{Container, containerOf, readTests, totalOf, totalAnswer}
-use Rattle.format.proofs.Readable.{readable}
+use Rattle.format.proofs.Readable.{readable, read-file}
 use Rattle.format.proofs.Stream.{counted}
 use Rattle.reads.proofs.total.Statement.{statement}
 use Rattle.reads.proofs.total.Tie as tie
@@ -25,8 +27,12 @@ module _ (c : Container) (task : ℕ) where
 -- where the tests pass
 passes : (e : tie.Else1)
     → let a = e .before .before .before .before .args in
-    firstFailing (readTests (containerOf (a .l) (a .lists .now) (a .image .now) (a .table .now)) (a .task)) ≡ 0
+    firstFailing (readTests (containerOf Single (a .l) (a .lists .now) (a .image .now) (a .table .now)) (a .task)) ≡ 0
 passes e = sym (e .before .read-refusal .ensures) ∙ e .if1 .left
+
+-- and the record is of the file that it says it is
+own : (e : tie.Else1) → fileIn (e .before .before .before .before .args .l .head) ≡ Single
+own e = read-file _ _ (passes e)
 
 read-refusal-requires : tie.Need-read-refusal-requires
 read-refusal-requires c κs = search needs
@@ -35,10 +41,10 @@ returns : tie.Need-returns
 returns c = refused _ _ _ (c .before .read-refusal .ensures) (search needs)
 
 total-of-requires : tie.Need-total-of-requires
-total-of-requires c κs = readable _ _ (search needs) (passes (c .before))
+total-of-requires c κs = rw (own (c .before)) (readable _ _ (search needs) (passes (c .before)))
 
 returns-2 : tie.Need-returns-2
-returns-2 c = accepted _ _ _ (passes (c .before .before)) (c .total-of .ensures)
+returns-2 c = let e = c .before .before in accepted _ _ _ (passes e) (rw (own e) at (c .total-of .ensures))
 
 pub total-spec : {M : Type 1} → statement M
 total-spec = tie.close (tie.spec read-refusal-requires returns total-of-requires returns-2)

@@ -9,7 +9,7 @@ use Rattle.endian.specs.Signed.{natural}
 use Rattle.lists.proofs.Below.{sum-none, sum-more, sum-le, sum-cong}
 use Rattle.format.specs.Limits.{maxTasks, maxSize, maxBlocks}
 use Rattle.format.specs.Meta2.{valueIndex}
-use Rattle.format.specs.Record.{entry, cell, countAt}
+use Rattle.format.specs.Record.{fileIn, entry, cell, countAt}
 use Rattle.format.specs.Reads.{Container, containerOf, chunksUsed, writtenIn, totalOf}
 use Rattle.format.specs.Passed.{Readable}
 use Rattle.format.proofs.Readable.{read-sound, used-few, used-listed, written-small, read-listed, read-counted}
@@ -28,7 +28,7 @@ start c = c .before .before .before .before .before
 
 -- what the tests give, at the start
 abbrev given : tie.Start Inv-loop μ-loop → Container
-given z = let a = z .args in containerOf (a .l) (a .lists .now) (a .image .now) (a .table .now)
+given z = let a = z .args in containerOf (fileIn (a .l .head)) (a .l) (a .lists .now) (a .image .now) (a .table .now)
 
 listed : (z : tie.Start Inv-loop μ-loop) → z .args .task - 1 < maxTasks
 listed z = read-listed (z .pre)

@@ -53,8 +53,26 @@ counts-ok-requires c κs =
 returns-3 : tie.Need-returns-3
 unfolding loadedSound
 returns-3 c =
-    let e = c .before .before .before in
-    rw (sound-head (e .before .before), test-holds (e .before .maxchunks-ok .ensures) (e .if2 .left)) (c .counts-ok .ensures)
+    let e = c .before .before .before .before in
+    rw (
+      sound-head (e .before .before),
+      test-holds (e .before .maxchunks-ok .ensures) (e .if2 .left),
+      test-fails (c .before .counts-ok .ensures) (c .if3 .taken),
+    )
+
+suits-requires : tie.Need-suits-requires
+suits-requires c κs = search needs
+
+returns-4 : tie.Need-returns-4
+unfolding loadedSound
+returns-4 c =
+    let e = c .before .before .before .before .before in
+    rw (
+      sound-head (e .before .before),
+      test-holds (e .before .maxchunks-ok .ensures) (e .if2 .left),
+      test-holds (c .before .before .counts-ok .ensures) (c .before .if3 .left),
+    )
+    (c .suits .ensures)
 
 pub loaded-ok-spec : {M : Type 1} → statement M
 loaded-ok-spec =
@@ -69,4 +87,6 @@ loaded-ok-spec =
     part-counts-end
     cast-counts-ok
     counts-ok-requires
-    returns-3)
+    returns-3
+    suits-requires
+    returns-4)

@@ -15,7 +15,7 @@ record-refusal-requires c κs =
     let s = c .before .before .before in (
       s .pre,
       λ e.
-          let (head, few, _) = loaded-holds (s .args .l) (s .args .lists .now) (sym (c .loaded-ok .ensures) ∙ e) in
+          let (head, few, _) = loaded-holds (s .args .file) (s .args .l) (s .args .lists .now) (sym (c .loaded-ok .ensures) ∙ e) in
           (head-kept _ _ head (s .pre), few),
     )
 

@@ -3,8 +3,14 @@ use mathlib.Core.Path.{_≡_}
 use mathlib.Core.Bool.{true}
 use native.Mathlib.Omega.{arith}
 use borrow.Author.Needs.{needs}
+use borrow.Author.Tests.{eq-eqb, ne-eqb}
+use lib.Dec.{eqb}
+use lib.IntN.{pos}
+use Rattle.lists.specs.Below.{allBelow}
+use Rattle.endian.specs.Signed.{within}
 use Rattle.lists.proofs.Below.{test-fails, test-holds, all-first}
-use Rattle.format.specs.Record.{headSound}
+use Rattle.format.specs.Meta2.{leastCount}
+use Rattle.format.specs.Record.{countOf, headSound}
 use Rattle.format.proofs.Passing.{head-tasks}
 use Rattle.format.proofs.Stripes.{length-counts}
 use Rattle.format.specs.Session.{sessionSound}
@@ -56,12 +62,31 @@ first-outside-requires c κs =
     let s = start (h .before) in
     omega (arith, head-tasks _ _ (sound-head h), length-counts (s .args .lists .now) (s .pre))
 
+-- what the counts' rule gives
+counts-are : (o : tie.After-first-outside)
+    → let a = start (o .before .before .before .before .before .before .before .before) .args in
+    eqb (o .first-outside .result) (a .s .head .n)
+    ≡ allBelow (a .s .head .n)
+    (λ i. within (leastCount (a .s .head .format)) (a .s .planned) (pos (countOf (a .lists .now) i)))
+counts-are o = rw (← (o .before .before .before .least-count .ensures)) (rw (o .first-outside .ensures) (all-first _ _))
+
 returns-3 : tie.Need-returns-3
 unfolding sessionSound
 returns-3 c =
-    let e = c .before .before .before .before .before in
-    rw (sound-head (e .before .before), test-holds (e .before .planned-ok .ensures) (e .if2 .left), ← (c .before .before .before .least-count .ensures))
-    (rw (c .first-outside .ensures) (all-first _ _))
+    let o = c .before in
+    let e = o .before .before .before .before .before in
+    rw (sound-head (e .before .before), test-holds (e .before .planned-ok .ensures) (e .if2 .left), ← (counts-are o), ne-eqb _ _ (c .if3 .taken))
+
+suits-requires : tie.Need-suits-requires
+suits-requires c κs = search needs
+
+returns-4 : tie.Need-returns-4
+unfolding sessionSound
+returns-4 c =
+    let o = c .before .before in
+    let e = o .before .before .before .before .before in
+    rw (sound-head (e .before .before), test-holds (e .before .planned-ok .ensures) (e .if2 .left), ← (counts-are o), eq-eqb _ _ (c .before .if3 .left))
+    (c .suits .ensures)
 
 pub session-ok-spec : {M : Type 1} → statement M
 session-ok-spec =
@@ -78,4 +103,6 @@ session-ok-spec =
     cast-n
     cast-first-outside
     first-outside-requires
-    returns-3)
+    returns-3
+    suits-requires
+    returns-4)

@@ -14,7 +14,7 @@ record-refusal-requires c κs =
     let s = c .before .before .before in (
       s .pre,
       λ e.
-          let (head, few, _) = session-holds (s .args .s) (s .args .lists .now) (sym (c .session-ok .ensures) ∙ e) .1 in
+          let (head, few, _) = session-holds (s .args .file) (s .args .s) (s .args .lists .now) (sym (c .session-ok .ensures) ∙ e) .1 in
           (head-kept _ _ head (s .pre), few),
     )
 

@@ -4,6 +4,7 @@ use native.Mathlib.Omega.{arith}
 use borrow.Author.Needs.{needs}
 use borrow.Author.Tests.{lt-leb}
 use Rattle.endian.proofs.Signed.{within-over}
+use Rattle.format.specs.Record.{fileIn}
 use Rattle.format.specs.Session.{State, stateOf}
 use Rattle.format.specs.Write.{Request, requestOf}
 use Rattle.writing.proofs.Decisions.{decide-no-task, decide-empty}
@@ -12,7 +13,7 @@ use Rattle.writing.proofs.decide.Tie as tie
 
 -- the session and the request
 abbrev lent : tie.Start → State
-lent s = let a = s .args in stateOf (a .s) (a .lists .now) (a .image .now) (a .table .now)
+lent s = let a = s .args in stateOf (fileIn (a .s .head)) (a .s) (a .lists .now) (a .image .now) (a .table .now)
 
 abbrev asked : tie.Start → Request
 asked s = requestOf (s .args .task) (s .args .bytes .now)

@@ -11,7 +11,7 @@ use Rattle.endian.specs.Signed.{natural}
 use Rattle.format.specs.Limits.{maxTasks}
 use Rattle.format.specs.Layout.{capacity}
 use Rattle.format.specs.Meta2.{valueIndex}
-use Rattle.format.specs.Record.{entry, cell, holds, sizeOf, countAt}
+use Rattle.format.specs.Record.{fileIn, entry, cell, holds, sizeOf, countAt}
 use Rattle.format.proofs.Stripes.{size-at, count-at}
 use Rattle.format.specs.Session.{State, stateOf}
 use Rattle.format.specs.Write.{Request, requestOf, begun, inLast, capacityOf}
@@ -26,7 +26,7 @@ use Rattle.writing.proofs.place.Tie as tie
 
 -- the session and the request
 abbrev lent : tie.Start → State
-lent s = let a = s .args in stateOf (a .s) (a .lists .now) (a .image .now) (a .table .now)
+lent s = let a = s .args in stateOf (fileIn (a .s .head)) (a .s) (a .lists .now) (a .image .now) (a .table .now)
 
 abbrev asked : tie.Start → Request
 asked s = requestOf (s .args .task) (s .args .bytes .now)

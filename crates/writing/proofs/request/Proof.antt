@@ -12,6 +12,7 @@ use borrow.Author.Needs.{needs, sfits-of}
 use Rattle.format.specs.Limits.{maxTasks, maxBlocks}
 use Rattle.format.specs.Meta2.{valueIndex}
 use Rattle.writing.specs.declared.Decision.{Decision}
+use Rattle.format.specs.Record.{fileIn}
 use Rattle.format.specs.Session.{State, stateOf, withCount}
 use Rattle.format.specs.Write.{Request, requestOf}
 use Rattle.format.proofs.Storing.{found-kept}
@@ -25,7 +26,7 @@ start c = let d = c .before .before .before in d .before .before .before .before
 
 -- the session and the request
 abbrev lent : tie.Start → State
-lent s = let a = s .args in stateOf (a .s) (a .lists .now) (a .image .now) (a .table .now)
+lent s = let a = s .args in stateOf (fileIn (a .s .head)) (a .s) (a .lists .now) (a .image .now) (a .table .now)
 
 abbrev asked : tie.Start → Request
 asked s = requestOf (s .args .task) (s .args .bytes .now)
@@ -139,7 +140,7 @@ returns-2 c =
     let written = toZ-ofZ {w = w64} (sfits-of (c .cell-of .ok)) ∙ c .cell-of .ensures in (
       sym (known e .accepted),
       ap₂ (λ (image : List ℕ) (value : ℤ).
-          stateOf (a .s) (withCount (a .lists .now) (a .task - 1) chunk) image
+          stateOf (fileIn (a .s .head)) (a .s) (withCount (a .lists .now) (a .task - 1) chunk) image
           (set (a .table .now) (valueIndex (a .s .head .n) (chunk - 1) (a .task - 1)) value))
           (p .put .ensures) written
           ∙ sym (known e .leaves (a .budget)),

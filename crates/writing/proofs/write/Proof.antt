@@ -2,6 +2,7 @@
 use mathlib.Core.Path.{_∙_}
 use native.Mathlib.Omega.{arith}
 use borrow.Author.Needs.{needs}
+use Rattle.format.specs.declared.head.File.the-variants.{Single}
 use Rattle.format.specs.Session.{stateOf}
 use Rattle.format.specs.Write.{requestOf}
 use Rattle.format.proofs.Storing.{write-whole}
@@ -22,7 +23,7 @@ returns c =
     let w = c .before .before .before in
     let z = w .before .before .before .before .before .before in
     let a = z .args in
-    let st = stateOf (a .s) (a .lists .now) (a .image .now) (a .table .now) in
+    let st = stateOf Single (a .s) (a .lists .now) (a .image .now) (a .table .now) in
     let done = w .write-within .ensures in
     (done .0, done .1 ∙ write-whole st (requestOf (a .task) (a .bytes .now)) _ (omega (arith, z .good .1 .1 .1 .1 .1 .0)))
 

@@ -1,0 +1,9 @@
+pub mod Ranks
+pub mod Mapping
+pub mod Open
+pub mod Sessions
+pub mod Load
+pub mod Reads
+pub mod Numbers
+pub mod Places
+pub mod Orders
