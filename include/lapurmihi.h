@@ -25,6 +25,8 @@
  *     lapur_length    the bytes of the container, without what follows it in the image
  *     lapur_prefix    where in the image its filename prefix lies
  *
+ * A container in two physical files, a pair, has calls of its own, in lapurmihi_pair.h.
+ *
  * Answers. Every call is accepted, with the number 0, or refused with the number of the first of its tests that fails. A refused call
  * changes nothing: no byte of the image or of an output, no cell of the table, nothing of a lent record. A refused load also says where it
  * broke off: the offset of the first offending field, what it says and what it may say. An accepted load says that the container's
@@ -117,9 +119,9 @@ enum lapur_refusal {
     LAPUR_BAD_BLOCKSIZE = 5,
     /* ntasks is not from 1 to 64; at opening also, the lists of ranks and sizes are not equally long */
     LAPUR_BAD_TASKS = 6,
-    /* nfiles is not 1, or filenumber is not 0 */
+    /* nfiles or filenumber is not that of the file meant: 1 and 0, and of a pair 2 and 0 or 1 */
     LAPUR_BAD_FILES = 7,
-    /* a rank is not from 0 to 2,147,483,647, or comes twice */
+    /* a rank is not from 0 to 2,147,483,647, or comes twice; opening a pair, its ranks are not 0, 1 and so on */
     LAPUR_BAD_RANK = 8,
     /* a requested size is not from 1 to 1,073,741,824 */
     LAPUR_BAD_SIZE = 9,
@@ -131,7 +133,7 @@ enum lapur_refusal {
     LAPUR_BAD_META2_PLACE = 12,
     /* a count or a value of META2 breaks its rule */
     LAPUR_BAD_META2 = 13,
-    /* there is no such task */
+    /* there is no such task, or of a pair no such rank */
     LAPUR_NO_TASK = 14,
     /* the request is longer than the task's chunk size */
     LAPUR_TOO_LONG = 15,
@@ -166,14 +168,14 @@ static inline const char *lapur_sentence(uint32_t refusal)
     case LAPUR_BAD_FORMAT: return "fileformat_version is neither 3 nor 4";
     case LAPUR_BAD_BLOCKSIZE: return "blocksize is no power of two from 512 to 4,194,304";
     case LAPUR_BAD_TASKS: return "ntasks is not from 1 to 64; at opening also, the lists of ranks and sizes are not equally long";
-    case LAPUR_BAD_FILES: return "nfiles is not 1, or filenumber is not 0";
-    case LAPUR_BAD_RANK: return "a rank is not from 0 to 2,147,483,647, or comes twice";
+    case LAPUR_BAD_FILES: return "nfiles or filenumber is not that of the file meant: 1 and 0, and of a pair 2 and 0 or 1";
+    case LAPUR_BAD_RANK: return "a rank is not from 0 to 2,147,483,647, or comes twice; opening a pair, its ranks are not 0, 1 and so on";
     case LAPUR_BAD_SIZE: return "a requested size is not from 1 to 1,073,741,824";
     case LAPUR_NOT_CLOSED: return "start_of_varheader is 0: the container was never closed";
     case LAPUR_BAD_MAXCHUNKS: return "maxchunks is not from 0 to 32";
     case LAPUR_BAD_META2_PLACE: return "start_of_varheader is not where META2 has to start, or META2 does not fit in the image";
     case LAPUR_BAD_META2: return "a count or a value of META2 breaks its rule";
-    case LAPUR_NO_TASK: return "there is no such task";
+    case LAPUR_NO_TASK: return "there is no such task, or of a pair no such rank";
     case LAPUR_TOO_LONG: return "the request is longer than the task's chunk size";
     case LAPUR_NO_CHUNK_LEFT: return "the task has no chunk left";
     case LAPUR_BAD_RECORD: return "the session or the loaded record is already closed, its numbers or lists break a rule, or it is of another file than meant";
@@ -264,8 +266,8 @@ static inline const char *lapur_field_name(uint32_t field)
  * never mixed: a session is not read, and a loaded container is not written. A record belongs with its image and its table, and a call
  * takes all three: test 17 judges the record, 18 the lengths of image and table (for a session those of lapur_needs, for a loaded record
  * the container's end and n * maxchunks cells), and 19 the cells against the record. Entries past n are 0 and not judged. The closed mark
- * is 0 where it is unset; a record with any other mark is refused with 17. Every call means a single file: a record whose `files` is not
- * 1 or whose `file` is not 0 is refused with 17 too.
+ * is 0 where it is unset; a record with any other mark is refused with 17. Every call of this header means a single file: a record whose
+ * `files` is not 1 or whose `file` is not 0 is refused with 17 too.
  */
 
 /* The numbers of a session's record. */
@@ -276,8 +278,8 @@ struct lapur_session_numbers {
     uint32_t format;                       /* fileformat_version: LAPUR_FORMAT_3 or LAPUR_FORMAT_4 */
     uint32_t blocksize;                    /* the bytes of a file-system block, a power of two from 512 to 4,194,304 */
     uint32_t n;                            /* the number of tasks, 1 to 64 */
-    uint32_t files;                        /* nfiles, the physical files of the container: 1 */
-    uint32_t file;                         /* filenumber, which of them it is, counted from 0: 0 */
+    uint32_t files;                        /* nfiles, the physical files of the container: 1; of a pair 2 */
+    uint32_t file;                         /* filenumber, which of them it is, counted from 0 */
     uint32_t planned;                      /* the planned blocks K, the most chunks of a task, 1 to 32 */
     uint32_t closed;                       /* the closed mark */
 };

@@ -7,6 +7,8 @@
  *     lapur_write_within    appends bytes to a task, as lapur_write does
  *     lapur_close_within    closes the session, as lapur_close does
  *
+ * and of a pair lapur_pair_open_within, lapur_pair_write_within and lapur_pair_close_within, with a budget for each image.
+ *
  * Of the call's stores into the image just the first `budget` are made, in the order that lapurmihi.h names, and what is then found there is
  * what a cut after that many stores leaves. A budget changes nothing else: tests, answer, record and table are those of the whole call, and
  * so is what is assumed of the memory. A refused call stores nothing. With a budget of all its stores, or of more, it is the whole call.
@@ -15,8 +17,9 @@
  * before it, and then does with the image what its program does with a file after a cut. What a load gives of it stands below; that holds of
  * a session whose record, image and table no one but its own calls changed, and with a table of LAPUR_CELLS cells.
  *
- * What is proved. The library has lapur_open_within and the two functions whose names end in _lent, and each of them is proved;
- * lapur_write_within and lapur_close_within are a few lines of C over these two, which take a record in two parts as in lapurmihi.h.
+ * What is proved. The library has lapur_open_within, lapur_pair_open_within and the four functions whose names end in _lent, and each of
+ * them is proved; the other four are a few lines of C over these, which take a record in two parts as in lapurmihi.h. What a load gives of
+ * what is found is proved of a single file.
  *
  * Link with liblapurmihi_cuts beside liblapurmihi, -llapurmihi_cuts -llapurmihi, both of one version. Where they are installed, the file
  * lapurmihi_cuts for pkg-config names both; in the repository `tools/build cuts` builds target/staticlib/liblapurmihi_cuts.a. It is a
@@ -26,7 +29,7 @@
 #ifndef LAPURMIHI_CUTS_H
 #define LAPURMIHI_CUTS_H
 
-#include "lapurmihi.h"
+#include "lapurmihi_pair.h"
 
 #ifdef __cplusplus
 extern "C" {
@@ -104,6 +107,93 @@ static inline struct lapur_closed lapur_close_within(
         lapur_close_within_lent(session->numbers, lapur_session_lists(session), image, image_length, table, cells, budget);
     struct lapur_closed closed = {answer.refusal, answer.length};
     session->numbers = answer.numbers;
+    return closed;
+}
+
+/*
+ * lapur_pair_open, of whose stores into each image just the first `budget0` and the first `budget1` are made.
+ *
+ * Tests, tables, records and answer are those of lapur_pair_open, whatever the budgets.
+ */
+struct lapur_pair_opened lapur_pair_open_within(
+    struct lapur_plan plan0,
+    const uint64_t *ranks0, size_t ranks0_length,
+    const uint64_t *sizes0, size_t sizes0_length,
+    const uint8_t *prefix0, size_t prefix0_length,
+    uint8_t *image0, size_t image0_length,
+    int64_t *table0, size_t cells0,
+    struct lapur_plan plan1,
+    const uint64_t *ranks1, size_t ranks1_length,
+    const uint64_t *sizes1, size_t sizes1_length,
+    const uint8_t *prefix1, size_t prefix1_length,
+    uint8_t *image1, size_t image1_length,
+    int64_t *table1, size_t cells1,
+    uint64_t budget0, uint64_t budget1);
+
+/* lapur_pair_write_within, of records in two parts. */
+uint32_t lapur_pair_write_within_lent(
+    struct lapur_session_numbers numbers0, uint64_t lists0[LAPUR_LISTS],
+    uint8_t *image0, size_t image0_length,
+    int64_t *table0, size_t cells0,
+    struct lapur_session_numbers numbers1, uint64_t lists1[LAPUR_LISTS],
+    uint8_t *image1, size_t image1_length,
+    int64_t *table1, size_t cells1,
+    uint64_t rank,
+    const uint8_t *bytes, size_t length,
+    uint64_t budget0, uint64_t budget1);
+
+/*
+ * lapur_pair_write, of whose stores into the image that has the rank just as many as that file's budget are made.
+ *
+ * Tests, tables, records and answer are those of lapur_pair_write, whatever the budgets.
+ */
+static inline uint32_t lapur_pair_write_within(
+    struct lapur_session *session0,
+    uint8_t *image0, size_t image0_length,
+    int64_t *table0, size_t cells0,
+    struct lapur_session *session1,
+    uint8_t *image1, size_t image1_length,
+    int64_t *table1, size_t cells1,
+    uint64_t rank,
+    const uint8_t *bytes, size_t length,
+    uint64_t budget0, uint64_t budget1)
+{
+    return lapur_pair_write_within_lent(
+        session0->numbers, lapur_session_lists(session0), image0, image0_length, table0, cells0,
+        session1->numbers, lapur_session_lists(session1), image1, image1_length, table1, cells1, rank, bytes, length, budget0, budget1);
+}
+
+/* lapur_pair_close_within, of records in two parts: it hands back the numbers, since only they change. */
+struct lapur_pair_closed_lent lapur_pair_close_within_lent(
+    struct lapur_session_numbers numbers0, const uint64_t lists0[LAPUR_LISTS],
+    uint8_t *image0, size_t image0_length,
+    const int64_t *table0, size_t cells0,
+    struct lapur_session_numbers numbers1, const uint64_t lists1[LAPUR_LISTS],
+    uint8_t *image1, size_t image1_length,
+    const int64_t *table1, size_t cells1,
+    uint64_t budget0, uint64_t budget1);
+
+/*
+ * lapur_pair_close, of whose stores into each image just the first `budget0` and the first `budget1` are made: of file 0's META2, the mapping, maxchunks,
+ * then start_of_varheader.
+ *
+ * Tests, records and answer are those of lapur_pair_close, whatever the budgets.
+ */
+static inline struct lapur_pair_closed lapur_pair_close_within(
+    struct lapur_session *session0,
+    uint8_t *image0, size_t image0_length,
+    const int64_t *table0, size_t cells0,
+    struct lapur_session *session1,
+    uint8_t *image1, size_t image1_length,
+    const int64_t *table1, size_t cells1,
+    uint64_t budget0, uint64_t budget1)
+{
+    struct lapur_pair_closed_lent answer = lapur_pair_close_within_lent(
+        session0->numbers, lapur_session_lists(session0), image0, image0_length, table0, cells0,
+        session1->numbers, lapur_session_lists(session1), image1, image1_length, table1, cells1, budget0, budget1);
+    struct lapur_pair_closed closed = {answer.refusal, answer.length0, answer.length1};
+    session0->numbers = answer.numbers0;
+    session1->numbers = answer.numbers1;
     return closed;
 }
 

@@ -8,11 +8,13 @@ _sion() {
         words="little big"
     elif [ "${COMP_WORDS[COMP_CWORD - 1]}" = --format ]; then
         words="3 4"
+    elif [ "${COMP_WORDS[COMP_CWORD - 1]}" = --files ]; then
+        words="1 2"
     else
         case $command:$word in
             check:-*) words="--quiet --json --help" ;;
             show:-*) words="--chunks --json --help" ;;
-            create:-*) words="--blocksize --order --format --prefix --blocks --force --help" ;;
+            create:-*) words="--blocksize --order --format --prefix --blocks --files --force --help" ;;
             extract:-*) words="--force --help" ;;
             *:-*) words="--help" ;;
             explain:*) words=$(sion explain 2>/dev/null | grep -o '\<[A-Z][A-Z0-9]*_[A-Z0-9_]*\>') ;;

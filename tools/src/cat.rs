@@ -16,7 +16,8 @@ pub const COMMAND: Command =
 const HELP: &str = "\
 usage: sion cat CONTAINER RANK
 
-Puts the bytes of the task with a rank on standard output. CONTAINER '-' is standard input.
+Puts the bytes of the task with a rank on standard output. CONTAINER '-' is standard input. Of a container in two
+files CONTAINER is the first, and the second is found beside it.
 
 The exit status is 0; 1 where the container is refused or has no such rank (14 NO_TASK); 2 where the command line is
 wrong; 3 where the container could not be read, or standard output could not be written.

@@ -3,9 +3,10 @@
 use crate::args::{Args, Command, Known};
 use crate::each::{each, unopened};
 use crate::failure::Failure;
+use crate::input::{Found, Unopened};
 use crate::text::{array, json, object, shown};
 use crate::{input, page, print, tell};
-use lapurmihi::{Container, LoadError, OpenError};
+use lapurmihi::{LoadError, OpenError};
 use std::ffi::OsStr;
 use std::io::{stderr, IsTerminal};
 
@@ -29,6 +30,9 @@ Judges containers of any size, one line for each:
 The byte is where the first field that is wrong stands, and 'xxd -s 4640 -l 8 night.sion' shows it; of a file that is
 cut off it is the file's length.
 
+A container in two files is named by the first, and the second, FILE.000001, is found beside it: its line has the
+tasks of both, by their ranks from 0 up, and a refusal names the one of the two that is at fault.
+
 FILE '-' is standard input; what comes through a pipe is held in memory. What follows a container in its file is
 not looked at; 'sion show' counts it.
 
@@ -46,21 +50,21 @@ fn run(args: &Args) -> Result<(), Failure> {
     let (quiet, json) = (args.flag("--quiet"), args.flag("--json"));
     each(&COMMAND, &args.words, |word, opened| match opened {
         _ if json && !quiet => print(&judged(word, opened)),
-        Err(error @ OpenError::File(_)) => {
-            tell(&input::failure(word, error));
+        Err(unopened @ Unopened { error: OpenError::File(_), .. }) => {
+            tell(&input::failure(unopened));
             Ok(())
         }
         _ if quiet => Ok(()),
-        Ok(container) => print(&line(word, container)),
-        Err(OpenError::Refused(error)) => refused(word, error),
+        Ok(found) => print(&line(word, found)),
+        Err(Unopened { word, error: OpenError::Refused(error) }) => refused(word, error),
     })
 }
 
 /// The line that sioncheck prints too: 0, the tasks, the greatest number of chunks, each task's bytes.
-fn line(word: &OsStr, container: &Container) -> String {
-    let totals: String = container.tasks().map(|task| format!(" {}", task.total())).collect();
-    let (tasks, maxchunks) = (container.tasks().len(), container.maxchunks());
-    format!("{}: 0 {tasks} {maxchunks}{totals}\n", shown(word))
+fn line(word: &OsStr, found: &Found) -> String {
+    let tasks = found.tasks();
+    let totals: String = tasks.iter().map(|task| format!(" {}", task.total())).collect();
+    format!("{}: 0 {} {}{totals}\n", shown(word), tasks.len(), found.maxchunks())
 }
 
 /// The line of a refusal, and for a person at a terminal what it means.
@@ -73,17 +77,18 @@ fn refused(word: &OsStr, error: &LoadError) -> Result<(), Failure> {
 }
 
 /// A line of JSON.
-fn judged(word: &OsStr, opened: &Result<Container, OpenError>) -> String {
-    let container = match opened {
-        Ok(container) => container,
-        Err(error) => return unopened(word, error),
+fn judged(word: &OsStr, opened: &Result<Found, Unopened>) -> String {
+    let found = match opened {
+        Ok(found) => found,
+        Err(error) => return unopened(error),
     };
+    let tasks = found.tasks();
     let fields = [
         ("file", json(word)),
         ("refusal", "0".to_string()),
-        ("tasks", container.tasks().len().to_string()),
-        ("maxchunks", container.maxchunks().to_string()),
-        ("totals", array(container.tasks().map(|task| task.total().to_string()))),
+        ("tasks", tasks.len().to_string()),
+        ("maxchunks", found.maxchunks().to_string()),
+        ("totals", array(tasks.iter().map(|task| task.total().to_string()))),
     ];
     object(fields) + "\n"
 }

@@ -1,14 +1,15 @@
 //! Holds the command `create`: files put into a container, each into a task of its own.
 
 use crate::args::{Args, Command, Known};
+use crate::create_pair::create_pair;
 use crate::failure::Failure;
-use crate::files::{Place, Sparse};
+use crate::files::{Names, Place, Sparse};
 use crate::plan::{planned, Asked};
 use crate::progress::Progress;
 use crate::sources::{inputs, Input};
 use crate::system::{free_memory, Zeros};
 use crate::text::{reason, shown};
-use lapurmihi::{ByteOrder, Format, Refusal};
+use lapurmihi::{ByteOrder, Format, Pair, Refusal};
 use std::os::unix::ffi::OsStrExt;
 use std::path::Path;
 
@@ -22,6 +23,7 @@ pub const COMMAND: Command = Command {
         Known::Valued("--format"),
         Known::Valued("--prefix"),
         Known::Valued("--blocks"),
+        Known::Valued("--files"),
         Known::Flag("--force"),
     ],
     run,
@@ -40,10 +42,15 @@ at most 64; '-' names neither a file nor the container. What they hold has to fi
     --format 3|4          fileformat_version (3); in 4 a task of an empty file has one chunk of 0 bytes, in 3 none
     --prefix TEXT         filename prefix that the container names (none)
     --blocks K            blocks that are planned, 1 to 32 (as few as needed); a file is spread over at most so many
+    --files 1|2           physical files that the container is spread over (1)
     --force               replace CONTAINER if it is a regular file and none of the files; its mode stays
 
 A task requests its file's length divided by the blocks, rounded up, and at least 1 byte; a chunk is filled to its end
 before the next is begun.
+
+With --files 2 the first half of the files, rounded up, goes into CONTAINER and the rest into CONTAINER.000001, at most
+64 into each. Their ranks have to be 0, 1 and so on, each once. Both files belong together: neither is a container by
+itself. CONTAINER takes its name last.
 
 A SIZE may end in k or M. The container is made under a temporary name beside it, and is there once it is whole
 and stored on the drive. A symbolic link is never replaced: name the file that it leads to.
@@ -69,9 +76,25 @@ fn run(args: &Args) -> Result<(), Failure> {
     };
     let inputs = inputs(files, wrong)?;
     let sources: Vec<_> = inputs.iter().map(|input| &input.source).collect();
-    let place = Place { path: container, force: args.flag("--force"), sources: &sources };
+    let force = args.flag("--force");
+    let place = Place { path: container, force, sources: &sources };
     place.free()?;
-    create(&asked, &inputs, &place)
+    if !two_files(args).map_err(wrong)? {
+        return create(&asked, &inputs, &place);
+    }
+    let second = Place { path: &Pair::second_name(container), force, sources: &sources };
+    second.free()?;
+    create_pair(&asked, &inputs, &place, &second)
+}
+
+/// Whether the container is to be spread over two physical files.
+fn two_files(args: &Args) -> Result<bool, String> {
+    match args.value("--files") {
+        None => Ok(false),
+        Some(files) if files == "1" => Ok(false),
+        Some(files) if files == "2" => Ok(true),
+        Some(other) => Err(format!("--files is 1 or 2, not '{}'", shown(other))),
+    }
 }
 
 /// What the options ask for.
@@ -104,17 +127,9 @@ fn create(asked: &Asked, inputs: &[Input], place: &Place) -> Result<(), Failure>
         .map_err(|cause| Failure::Refused(format!("cannot create {container}: {cause}")))?;
     let refused = |refusal: Refusal| Failure::refused(&container, refusal);
     let needs = plan.needs().map_err(refused)?;
-    let total = inputs.iter().map(|input| input.length).sum();
-    if let Some(free) = free_memory().filter(|&free| free < total) {
-        let why =
-            format!("its files have {total} bytes, which are held in memory, and {free} are free");
-        return Err(Failure::file("create", place.path, why));
-    }
+    let total = held_in_memory(inputs, place.path)?;
     let mut table = vec![0; needs.cells];
-    let mut image = Zeros::new(needs.image).map_err(|error| {
-        let why = format!("{} bytes of memory: {}", needs.image, reason(&error));
-        Failure::file("create", place.path, why)
-    })?;
+    let mut image = zeros(needs.image, place.path)?;
 
     let mut session = plan.open(&mut image, &mut table).map_err(refused)?;
     let mut progress = Progress::new("stored", inputs.len(), total);
@@ -126,12 +141,35 @@ fn create(asked: &Asked, inputs: &[Input], place: &Place) -> Result<(), Failure>
     let bytes = session.close().map_err(refused)?;
     drop(progress);
     let mut progress = Progress::new("written", 0, bytes.len() as u64);
-    let made = place.make(|file| {
+    write(place, bytes, &mut progress)?.store()
+}
+
+/// The bytes of all files, for which there has to be memory.
+pub fn held_in_memory(inputs: &[Input], container: &Path) -> Result<u64, Failure> {
+    let total = inputs.iter().map(|input| input.length).sum();
+    if let Some(free) = free_memory().filter(|&free| free < total) {
+        let why =
+            format!("its files have {total} bytes, which are held in memory, and {free} are free");
+        return Err(Failure::file("create", container, why));
+    }
+    Ok(total)
+}
+
+/// An image that is cleared.
+pub fn zeros(bytes: usize, container: &Path) -> Result<Zeros, Failure> {
+    Zeros::new(bytes).map_err(|error| {
+        let why = format!("{bytes} bytes of memory: {}", reason(&error));
+        Failure::file("create", container, why)
+    })
+}
+
+/// Makes a file of these bytes.
+pub fn write(place: &Place, bytes: &[u8], progress: &mut Progress) -> Result<Names, Failure> {
+    place.make(|file| {
         let mut file = Sparse::new(file, place.path);
-        file.put(bytes, &mut progress)?;
+        file.put(bytes, progress)?;
         file.end()
-    });
-    made?.store()
+    })
 }
 
 #[cfg(test)]

@@ -2,10 +2,11 @@
 
 use crate::args::Command;
 use crate::failure::{Failure, REFUSED, SYSTEM};
+use crate::input::{Found, Unopened};
 use crate::progress::Progress;
 use crate::text::{json, object, reason};
 use crate::{input, page};
-use lapurmihi::{Container, Fault, LoadError, OpenError};
+use lapurmihi::{Fault, LoadError, OpenError};
 use std::ffi::{OsStr, OsString};
 
 /// Has each container that the words name told, or why it cannot be opened, and fails with the worst status. Where something cannot be
@@ -13,7 +14,7 @@ use std::ffi::{OsStr, OsString};
 pub fn each(
     command: &Command,
     words: &[OsString],
-    mut tell: impl FnMut(&OsStr, &Result<Container, OpenError>) -> Result<(), Failure>,
+    mut tell: impl FnMut(&OsStr, &Result<Found, Unopened>) -> Result<(), Failure>,
 ) -> Result<(), Failure> {
     let wrong = match words {
         [] => Some(format!("{} takes at least one file", command.name)),
@@ -37,16 +38,16 @@ pub fn each(
     }
 }
 
-fn status(opened: &Result<Container, OpenError>) -> u8 {
-    match opened {
+fn status(opened: &Result<Found, Unopened>) -> u8 {
+    match opened.as_ref().map_err(|unopened| &unopened.error) {
         Ok(_) => 0,
         Err(OpenError::Refused(_)) => REFUSED,
         Err(OpenError::File(_)) => SYSTEM,
     }
 }
 
-/// Why a container cannot be opened, as a line of JSON.
-pub fn unopened(word: &OsStr, error: &OpenError) -> String {
+/// Why a container cannot be opened, as a line of JSON: its file is the one at fault.
+pub fn unopened(Unopened { word, error }: &Unopened) -> String {
     let mut fields = vec![("file", json(word))];
     match error {
         OpenError::File(error) => fields.push(("error", json(reason(error)))),

@@ -3,10 +3,10 @@
 use crate::args::{Args, Command, Known};
 use crate::failure::{Failure, Named};
 use crate::files::{folder as folder_of, Names, Place, Source, Sparse};
-use crate::input::{opened, source};
+use crate::input::{opened, sources, Found};
 use crate::progress::Progress;
 use crate::text::shown;
-use lapurmihi::{Container, Task};
+use lapurmihi::Task;
 use std::path::{Path, PathBuf};
 
 pub const COMMAND: Command = Command {
@@ -22,7 +22,7 @@ usage: sion extract [--force] CONTAINER FOLDER
 
 Takes each task's bytes out into the file FOLDER/rank-N, where N is the task's rank in ten digits, so that
 'sion create CONTAINER FOLDER/rank-*' gives each file its rank again. The folder is made if need be. CONTAINER '-' is
-standard input.
+standard input. Of a container in two files CONTAINER is the first, and the second is found beside it.
 
     --force    replace regular files that exist; their modes stay, not their owners
 
@@ -41,20 +41,16 @@ fn run(args: &Args) -> Result<(), Failure> {
             return Err(Failure::Usage(COMMAND.called, what));
         }
     };
-    let source = source(container)?;
-    extract(&opened(container)?, folder, args.flag("--force"), &source)
+    let found = opened(container)?;
+    let sources = sources(container, &found)?;
+    extract(&found, folder, args.flag("--force"), &sources.iter().collect::<Vec<_>>())
 }
 
-fn extract(
-    container: &Container,
-    folder: &Path,
-    force: bool,
-    source: &Source,
-) -> Result<(), Failure> {
+fn extract(found: &Found, folder: &Path, force: bool, sources: &[&Source]) -> Result<(), Failure> {
     let path = |task: Task| folder.join(format!("rank-{:010}", task.rank()));
-    let files: Vec<(Task, PathBuf)> = container.tasks().map(|task| (task, path(task))).collect();
-    let sources = [source];
-    let place = |path| Place { path, force, sources: &sources };
+    let tasks = found.tasks().into_iter();
+    let files: Vec<(Task, PathBuf)> = tasks.map(|task| (task, path(task))).collect();
+    let place = |path| Place { path, force, sources };
     files.iter().try_for_each(|(_, path)| place(path).free().map(drop))?;
     let names = make_folder(folder)?;
     let total = files.iter().map(|(task, _)| task.total()).sum();

@@ -5,7 +5,7 @@ use crate::files::Source;
 use crate::progress::Progress;
 use crate::system::standard_input;
 use crate::text::shown;
-use lapurmihi::{Container, OpenError, Refusal, CELLS};
+use lapurmihi::{Container, Field, InFile, LoadError, OpenError, Pair, Refusal, Task, CELLS};
 use std::ffi::{OsStr, OsString};
 use std::fs::{self, File};
 use std::io::{self, Read, Seek};
@@ -24,8 +24,65 @@ pub fn name(word: &OsStr) -> String {
     shown(word)
 }
 
-/// Opens the container that a word of the command line names.
-pub fn open(word: &OsStr) -> Result<Container<'static>, OpenError> {
+/// A container, in one physical file or in two.
+#[derive(Debug)]
+pub enum Found {
+    Single(Container<'static>),
+    Pair(Pair<'static>),
+}
+
+impl Found {
+    /// The tasks, of a single file in its order and of a pair by their ranks.
+    pub fn tasks(&self) -> Vec<Task<'_>> {
+        match self {
+            Found::Single(container) => container.tasks().collect(),
+            Found::Pair(pair) => pair.tasks().collect(),
+        }
+    }
+
+    pub fn task_by_rank(&self, rank: u64) -> Result<Task<'_>, Refusal> {
+        match self {
+            Found::Single(container) => container.task_by_rank(rank),
+            Found::Pair(pair) => pair.task(rank),
+        }
+    }
+
+    /// The greatest number of chunks that a task used.
+    pub fn maxchunks(&self) -> u64 {
+        self.tasks().iter().map(Task::chunks_used).max().unwrap_or(0)
+    }
+}
+
+/// Why a container cannot be opened, and the one of its files that is at fault, as a word of the command line names it.
+#[derive(Debug)]
+pub struct Unopened {
+    pub word: OsString,
+    pub error: OpenError,
+}
+
+/// Opens the container that a word of the command line names. What says that it is of two files is the first of a pair, whose second is beside it;
+/// beside standard input and what is no regular file there is none.
+pub fn open(word: &OsStr) -> Result<Found, Unopened> {
+    let regular = || fs::metadata(word).is_ok_and(|about| about.is_file());
+    match alone(word) {
+        Err(OpenError::Refused(error)) if of_two(&error) && word != STANDARD && regular() => {
+            Pair::open(word).map(Found::Pair).map_err(|InFile { file, error }| match file {
+                0 => Unopened { word: word.to_os_string(), error },
+                _ => Unopened { word: Pair::second_name(word).into(), error },
+            })
+        }
+        Err(error) => Err(Unopened { word: word.to_os_string(), error }),
+        Ok(container) => Ok(Found::Single(container)),
+    }
+}
+
+/// Whether all before nfiles is right, and that says 2.
+fn of_two(error: &LoadError) -> bool {
+    error.fault.field() == Field::Files && error.fault.says() == 2
+}
+
+/// The container in one physical file.
+fn alone(word: &OsStr) -> Result<Container<'static>, OpenError> {
     match word == STANDARD {
         true => mapped_or_read(&mut *standard_input()?),
         false => mapped_or_read(&mut File::open(word)?),
@@ -43,22 +100,30 @@ fn mapped_or_read(file: &mut File) -> Result<Container<'static>, OpenError> {
 }
 
 /// The same, for a command that can do nothing without it.
-pub fn opened(word: &OsStr) -> Result<Container<'static>, Failure> {
-    open(word).map_err(|error| failure(word, &error))
+pub fn opened(word: &OsStr) -> Result<Found, Failure> {
+    open(word).map_err(|unopened| failure(&unopened))
 }
 
-/// The file of a container, which must not be replaced by what is made of it.
-pub fn source(word: &OsStr) -> Result<Source, Failure> {
+/// The files of a container, which must not be replaced by what is made of it.
+pub fn sources(word: &OsStr, found: &Found) -> Result<Vec<Source>, Failure> {
+    let second = match found {
+        Found::Single(_) => None,
+        Found::Pair(_) => Some(Pair::second_name(word).into()),
+    };
+    std::iter::once(word.to_os_string()).chain(second).map(|word| source(&word)).collect()
+}
+
+fn source(word: &OsStr) -> Result<Source, Failure> {
     let about = match word == STANDARD {
         true => standard_input().and_then(|file| file.metadata()),
         false => fs::metadata(word),
     };
-    let about = about.map_err(|error| failure(word, &error.into()))?;
+    let about = about.map_err(|error| Failure::system("read", &name(word), &error))?;
     Ok(Source::new(name(word), &about))
 }
 
 /// Why a container cannot be opened, as it is told.
-pub fn failure(word: &OsStr, error: &OpenError) -> Failure {
+pub fn failure(Unopened { word, error }: &Unopened) -> Failure {
     match error {
         OpenError::File(error) => Failure::system("read", &name(word), error),
         OpenError::Refused(error) => Failure::broken(&name(word), error),

@@ -3,6 +3,8 @@
 use crate::args::{Args, Command, Known};
 use crate::each::{each, unopened};
 use crate::failure::Failure;
+use crate::input::Found;
+use crate::show_pair;
 use crate::text::{array, json, object, shown};
 use crate::{input, print, tell};
 use lapurmihi::{ByteOrder, Container, Task};
@@ -24,7 +26,8 @@ Shows what containers hold: byte order, versions, blocksize and filename prefix,
 that follow the container in it; and a line for each task with its rank, the size that it requested for a chunk, the
 chunk size, which is what a chunk holds, the chunks that it used, its bytes, and the share of those chunks that they
 fill. The chunk size is the requested size, rounded up to a multiple of the blocksize. Where several files are named,
-a line FILE: stands before each. FILE '-' is standard input.
+a line FILE: stands before each. FILE '-' is standard input. A container in two files is named by the first, and the
+second, FILE.000001, is found beside it: both are told, and their tasks by their ranks from 0 up.
 
     --chunks    list every chunk too: its task, rank and number, its offset in the file and its bytes
     --json      print a JSON object for each file, with an array of its tasks
@@ -40,45 +43,71 @@ fn run(args: &Args) -> Result<(), Failure> {
     let (chunks, as_json) = (args.flag("--chunks"), args.flag("--json"));
     let several = args.words.len() > 1;
     each(&COMMAND, &args.words, |word, opened| match opened {
-        Ok(container) if as_json => print(&whole(word, container, chunks)),
-        Err(error) if as_json => print(&unopened(word, error)),
-        Ok(container) => {
+        Ok(Found::Single(container)) if as_json => print(&whole(word, container, chunks)),
+        Ok(Found::Pair(pair)) if as_json => print(&show_pair::whole(word, pair, chunks)),
+        Err(error) if as_json => print(&unopened(error)),
+        Ok(found) => {
             let head = if several { format!("{}:\n", shown(word)) } else { String::new() };
-            let chunks = if chunks { format!("\n{}", parts(container)) } else { String::new() };
-            print(&format!("{head}{}\n{}{chunks}", about(container), tasks(container)))
+            let chunks = if chunks { format!("\n{}", listed(found)) } else { String::new() };
+            print(&format!("{head}{}{chunks}", told(word, found)))
         }
         Err(error) => {
-            tell(&input::failure(word, error));
+            tell(&input::failure(error));
             Ok(())
         }
     })
 }
 
-fn order(container: &Container) -> &'static str {
-    match container.byte_order() {
+/// All about a container but for its chunks.
+fn told(word: &OsStr, found: &Found) -> String {
+    match found {
+        Found::Single(container) => format!("{}\n{}", about(container), tasks(container)),
+        Found::Pair(pair) => show_pair::told(word, pair),
+    }
+}
+
+/// The table of its chunks.
+fn listed(found: &Found) -> String {
+    match found {
+        Found::Single(container) => parts(container),
+        Found::Pair(pair) => show_pair::parts(pair),
+    }
+}
+
+pub fn order(order: ByteOrder) -> &'static str {
+    match order {
         ByteOrder::Little => "little",
         ByteOrder::Big => "big",
     }
 }
 
-/// The lines about the whole container.
-fn about(container: &Container) -> String {
-    let prefix = match container.prefix() {
+/// A filename prefix as it is shown.
+pub fn prefix(bytes: &[u8]) -> String {
+    match bytes {
         b"" => "none".to_string(),
         prefix => shown(OsStr::from_bytes(prefix)),
-    };
+    }
+}
+
+/// The lines about the whole container.
+fn about(container: &Container) -> String {
     let lines = [
-        ("byte order", order(container).to_string()),
+        ("byte order", order(container.byte_order()).to_string()),
         ("version", format!("{}, patch level {}", container.version(), container.patch())),
         ("format", (container.format() as u32).to_string()),
         ("blocksize", container.blocksize().to_string()),
         ("tasks", container.tasks().len().to_string()),
         ("most chunks", container.maxchunks().to_string()),
-        ("prefix", prefix),
+        ("prefix", prefix(container.prefix())),
         ("file length", format!("{} bytes", container.image().len())),
         ("trailing", format!("{} bytes", trailing(container))),
     ];
-    lines.map(|(name, value)| format!("{name:<13}{value}\n")).concat()
+    named(&lines)
+}
+
+/// Names with their values, a line for each.
+pub fn named(lines: &[(&str, String)]) -> String {
+    lines.iter().map(|(name, value)| format!("{name:<13}{value}\n")).collect()
 }
 
 /// The bytes of the file that follow the container.
@@ -91,7 +120,7 @@ fn whole(word: &OsStr, container: &Container, chunks: bool) -> String {
     let fields = [
         ("file", json(word)),
         ("refusal", "0".to_string()),
-        ("order", json(order(container))),
+        ("order", json(order(container.byte_order()))),
         ("version", container.version().to_string()),
         ("patch", container.patch().to_string()),
         ("format", (container.format() as u32).to_string()),
@@ -107,6 +136,10 @@ fn whole(word: &OsStr, container: &Container, chunks: bool) -> String {
 }
 
 fn task_object(task: Task, chunks: bool) -> String {
+    object(task_fields(task, chunks))
+}
+
+pub fn task_fields(task: Task, chunks: bool) -> Vec<(&'static str, String)> {
     let mut fields = vec![
         ("task", task.number().to_string()),
         ("rank", task.rank().to_string()),
@@ -121,11 +154,11 @@ fn task_object(task: Task, chunks: bool) -> String {
         });
         fields.push(("chunks", array(objects)));
     }
-    object(fields)
+    fields
 }
 
 /// The number of each chunk that a task used, its offset in the file and its bytes.
-fn places(task: Task<'_>) -> impl Iterator<Item = [String; 3]> + use<'_> {
+pub fn places(task: Task<'_>) -> impl Iterator<Item = [String; 3]> + use<'_> {
     (1..=task.chunks_used()).map(move |chunk| {
         let place = task.chunk_place(chunk).expect("a chunk that is used has its place");
         [chunk.to_string(), place.start.to_string(), place.len().to_string()]
@@ -165,7 +198,7 @@ fn row(first: [String; 4], chunks: u64, bytes: u64, room: u64) -> [String; 7] {
 }
 
 /// Bytes as a share of their room in percent, cut behind the first digit, so that only full chunks show 100.
-fn fill(bytes: u64, room: u64) -> String {
+pub fn fill(bytes: u64, room: u64) -> String {
     match (bytes * 1000).checked_div(room) {
         Some(share) => format!("{}.{} %", share / 10, share % 10),
         None => "-".to_string(),
@@ -173,7 +206,7 @@ fn fill(bytes: u64, room: u64) -> String {
 }
 
 /// Rows as lines, each column as wide as its widest entry and set to the right.
-fn aligned<const N: usize>(rows: &[[String; N]]) -> String {
+pub fn aligned<const N: usize>(rows: &[[String; N]]) -> String {
     let widths: [usize; N] =
         std::array::from_fn(|at| rows.iter().map(|row| row[at].len()).max().unwrap_or(0));
     let line = |row: &[String; N]| {

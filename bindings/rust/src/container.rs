@@ -1,16 +1,12 @@
-//! Holds a loaded container and its tasks.
+//! Holds a loaded container.
 
 use crate::memory::{Image, Table};
 use crate::refusal::accepted;
-use crate::{raw, ByteOrder, Fault, Format, LoadError, OpenError, Refusal, Stream, CELLS};
+use crate::task::{Task, READABLE};
+use crate::{raw, ByteOrder, Fault, Format, LoadError, OpenError, Refusal, CELLS};
 use std::fmt;
 use std::fs::File;
-use std::ops::Range;
 use std::path::Path;
-
-/// Why a call on a loaded container may be taken for accepted: it is proved that an accepted load can be read, and that what its chunks
-/// hold is answered.
-const READABLE: &str = "an accepted load is readable";
 
 /// A container whose structure was checked, over memory of its own or lent to it. That its bytes are the ones that were sent, no check can
 /// say: the format has no checksum.
@@ -28,9 +24,9 @@ const READABLE: &str = "an accepted load is readable";
 /// # Ok::<(), lapurmihi::OpenError>(())
 /// ```
 pub struct Container<'a> {
-    record: raw::Loaded,
-    image: Image<'a>,
-    table: Table<'a>,
+    pub(crate) record: raw::Loaded,
+    pub(crate) image: Image<'a>,
+    pub(crate) table: Table<'a>,
 }
 
 impl Container<'static> {
@@ -104,10 +100,7 @@ impl<'a> Container<'a> {
 
     /// The byte order of the container's numbers.
     pub fn byte_order(&self) -> ByteOrder {
-        match self.record.numbers.order {
-            0 => ByteOrder::Little,
-            _ => ByteOrder::Big,
-        }
+        ByteOrder::of(&self.record)
     }
 
     /// The library version that the container names.
@@ -122,10 +115,7 @@ impl<'a> Container<'a> {
 
     /// The container's fileformat_version.
     pub fn format(&self) -> Format {
-        match self.record.numbers.format {
-            3 => Format::V3,
-            _ => Format::V4,
-        }
+        Format::of(&self.record)
     }
 
     /// The bytes of a file-system block.
@@ -154,13 +144,13 @@ impl<'a> Container<'a> {
 
     /// The tasks, in the container's order.
     pub fn tasks(&self) -> impl ExactSizeIterator<Item = Task<'_>> + DoubleEndedIterator {
-        (0..self.record.numbers.n as usize).map(|index| Task { container: self, index })
+        (0..self.record.numbers.n as usize).map(|index| Task::of_container(self, index))
     }
 
     /// One task, counted from 1.
     pub fn task(&self, number: u64) -> Result<Task<'_>, Refusal> {
         accepted(raw::total(&self.record, &self.image, &self.table, number).refusal)?;
-        Ok(Task { container: self, index: number as usize - 1 })
+        Ok(Task::of_container(self, number as usize - 1))
     }
 
     /// The task with a rank, of which there is at most one. Where there is none, that is [`NoTask`](Refusal::NoTask).
@@ -181,114 +171,6 @@ impl fmt::Debug for Container<'_> {
             .field("length", &self.length())
             .field("prefix", &String::from_utf8_lossy(self.prefix()))
             .field("tasks", &self.tasks().collect::<Vec<_>>())
-            .finish()
-    }
-}
-
-/// A task of a loaded container.
-///
-/// ```
-/// use lapurmihi::{Container, Refusal};
-///
-/// let container = Container::open("../../examples/two-tasks.sion")?;
-/// let task = container.task(1)?;
-/// assert_eq!((task.requested_size(), task.chunk_size()), (500, 512));
-/// let lengths: Vec<usize> = task.chunks().map(<[u8]>::len).collect();
-/// assert_eq!(lengths, [501]);
-/// assert_eq!(task.chunk(2), Err(Refusal::NoChunk));
-///
-/// let mut end = [0; 4];
-/// assert_eq!(task.read_at(499, &mut end)?, 2); // up to the total
-/// assert_eq!(task.read_at(502, &mut end), Err(Refusal::PastTotal));
-/// # Ok::<(), std::io::Error>(())
-/// ```
-#[derive(Clone, Copy)]
-pub struct Task<'c> {
-    container: &'c Container<'c>,
-    index: usize,
-}
-
-impl<'c> Task<'c> {
-    /// The task's number, counted from 1.
-    pub fn number(&self) -> u64 {
-        self.index as u64 + 1
-    }
-
-    /// Its global rank.
-    pub fn rank(&self) -> u64 {
-        self.container.record.ranks[self.index]
-    }
-
-    /// The most bytes that each of its chunks holds: its requested size, rounded up to a multiple of the blocksize.
-    pub fn chunk_size(&self) -> u64 {
-        let holds = raw::chunk_size(self.requested_size(), self.container.blocksize());
-        accepted(holds.refusal).expect(READABLE);
-        holds.bytes
-    }
-
-    /// The bytes that were requested for each of its chunks when the container was planned.
-    pub fn requested_size(&self) -> u64 {
-        self.container.record.sizes[self.index]
-    }
-
-    /// The chunks that it used.
-    pub fn chunks_used(&self) -> u64 {
-        self.container.record.counts[self.index]
-    }
-
-    /// The bytes of its whole stream.
-    pub fn total(&self) -> u64 {
-        let Container { record, image, table } = self.container;
-        let counted = raw::total(record, image, table, self.number());
-        accepted(counted.refusal).expect(READABLE);
-        counted.bytes
-    }
-
-    /// Where the bytes written to a chunk, counted from 1, lie in the image, and so in the file.
-    pub fn chunk_place(&self, chunk: u64) -> Result<Range<usize>, Refusal> {
-        let Container { record, image, table } = self.container;
-        let part = raw::chunk(record, image, table, self.number(), chunk);
-        accepted(part.refusal)?;
-        let start = part.start as usize;
-        Ok(start..start + part.length as usize)
-    }
-
-    /// The bytes written to a chunk, counted from 1: a part of the image, not a copy.
-    pub fn chunk(&self, chunk: u64) -> Result<&'c [u8], Refusal> {
-        let place = self.chunk_place(chunk)?;
-        Ok(&self.container.image()[place])
-    }
-
-    /// The bytes written to each chunk that it used, in order.
-    pub fn chunks(&self) -> impl ExactSizeIterator<Item = &'c [u8]> + DoubleEndedIterator + 'c {
-        let task = *self;
-        (0..self.chunks_used() as usize)
-            .map(move |index| task.chunk(index as u64 + 1).expect(READABLE))
-    }
-
-    /// Copies its stream from a place on into `out`, as far as both reach, and counts the bytes copied. The rest of `out` stays.
-    pub fn read_at(&self, place: u64, out: &mut [u8]) -> Result<usize, Refusal> {
-        let Container { record, image, table } = self.container;
-        let counted = raw::read(record, image, table, self.number(), place, out);
-        accepted(counted.refusal)?;
-        Ok(counted.bytes as usize)
-    }
-
-    /// Its bytes from the first on, for `std::io`.
-    pub fn stream(&self) -> Stream<'c> {
-        Stream::new(*self)
-    }
-}
-
-impl fmt::Debug for Task<'_> {
-    fn fmt(&self, f: &mut fmt::Formatter<'_>) -> fmt::Result {
-        f.debug_struct("Task")
-            .field("number", &self.number())
-            .field("rank", &self.rank())
-            .field("requested_size", &self.requested_size())
-            .field("chunk_size", &self.chunk_size())
-            .field("chunks_used", &self.chunks_used())
-            .field("total", &self.total())
             .finish()
     }
 }

@@ -100,7 +100,7 @@ impl Fault {
         self.field
     }
 
-    /// Of which task it is, counted from 1, if it is of one.
+    /// Of which task it is, counted from 1, if it is of one; of a pair's mapping, of which entry, which is its rank and 1.
     pub fn task(&self) -> Option<u64> {
         (self.task != 0).then_some(self.task.into())
     }
@@ -130,6 +130,9 @@ impl Fault {
     /// The field as a sentence names it.
     fn subject(&self) -> String {
         match (self.field.name(), self.task, self.chunk) {
+            (name, entry, _) if matches!(self.field, Field::EntryFile | Field::EntryTask) => {
+                format!("{name} of entry {entry}")
+            }
             (name, 0, _) => name.to_string(),
             (name, task, 0) => format!("{name} of task {task}"),
             (_, task, chunk) => format!("chunk {chunk} of task {task}"),
@@ -182,6 +185,16 @@ impl fmt::Display for Fault {
             }
             Field::Rank if (least..=most).contains(&says) => {
                 write!(f, "{subject} says {says}, which an earlier task has")
+            }
+            Field::MappingSize => {
+                write!(f, "{subject} says {says}, and the files have {least} tasks together")
+            }
+            Field::EntryRank => {
+                let entry = self.task;
+                write!(
+                    f,
+                    "entry {entry} of the mapping names a task of rank {says}, and rank {least} is asked for"
+                )
             }
             _ => write!(f, "{subject} says {says}, and {asked} is asked for"),
         }

@@ -6,6 +6,8 @@
 //! and a container over lent memory, allocate nothing but a [`Plan`]'s lists and prefix; [`Container::open`] and its kin own their table and
 //! what cannot be mapped.
 //!
+//! A container in two physical files is a [`Pair`], made with a [`PairPlan`]; its tasks are named by their global ranks.
+//!
 //! The library stores into an image byte by byte, in an order that lets a power cut be told from a container. For a program's own tests the
 //! feature `cuts`, which is off by default and links a second static library, has `Plan::open_within`, `Session::write_within` and
 //! `Session::close_within`: they leave in an image what a cut after so many stores would leave.
@@ -49,22 +51,30 @@ mod documents {
 
 mod container;
 mod fault;
+mod in_file;
 mod load_error;
 mod mapping;
 mod memory;
 mod open_error;
+mod pair;
+mod pair_session;
 pub mod raw;
 mod refusal;
 mod session;
 mod stream;
+mod task;
 mod writer;
 
-pub use container::{Container, Task};
+pub use container::Container;
 pub use fault::{Fault, Field};
+pub use in_file::InFile;
 pub use load_error::LoadError;
 pub use open_error::OpenError;
+pub use pair::{Pair, PairFile};
+pub use pair_session::{PairPlan, PairSession};
 pub use raw::{BLOCKS, CELLS, TASKS};
 pub use refusal::Refusal;
 pub use session::{ByteOrder, Format, Needs, Plan, Session};
 pub use stream::Stream;
+pub use task::Task;
 pub use writer::Writer;

@@ -5,9 +5,12 @@
 
 #[cfg(feature = "cuts")]
 mod cuts;
+pub mod pair;
 
 #[cfg(feature = "cuts")]
-pub use cuts::{close_within, open_within, write_within};
+pub use cuts::{
+    close_within, open_within, pair_close_within, pair_open_within, pair_write_within, write_within,
+};
 
 use std::ptr;
 
@@ -36,9 +39,9 @@ pub struct SessionNumbers {
     pub blocksize: u32,
     /// The number of tasks.
     pub n: u32,
-    /// nfiles, the physical files of the container: 1.
+    /// nfiles, the physical files of the container: 1, and of a pair 2.
     pub files: u32,
-    /// filenumber, which of them it is, counted from 0: 0.
+    /// filenumber, which of them it is, counted from 0.
     pub file: u32,
     /// The planned blocks.
     pub planned: u32,
@@ -76,9 +79,9 @@ pub struct LoadedNumbers {
     pub blocksize: u32,
     /// The number of tasks.
     pub n: u32,
-    /// nfiles, the physical files of the container: 1.
+    /// nfiles, the physical files of the container: 1, and of a pair 2.
     pub files: u32,
-    /// filenumber, which of them it is, counted from 0: 0.
+    /// filenumber, which of them it is, counted from 0.
     pub file: u32,
     /// The greatest number of chunks that a task used.
     pub maxchunks: u32,

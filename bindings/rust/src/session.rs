@@ -4,6 +4,7 @@
 mod cuts;
 
 use crate::refusal::accepted;
+use crate::writer::Requests;
 use crate::{raw, Refusal};
 use std::fmt;
 
@@ -16,6 +17,16 @@ pub enum ByteOrder {
     Little = 0,
     /// The greatest byte first.
     Big = 1,
+}
+
+impl ByteOrder {
+    /// That of a loaded record.
+    pub(crate) fn of(record: &raw::Loaded) -> ByteOrder {
+        match record.numbers.order {
+            0 => ByteOrder::Little,
+            _ => ByteOrder::Big,
+        }
+    }
 }
 
 /// A container's fileformat_version, which says how a task that wrote nothing is stored. Whether a request is taken, and where its bytes go, does
@@ -45,6 +56,16 @@ pub enum Format {
     V4 = 4,
 }
 
+impl Format {
+    /// That of a loaded record.
+    pub(crate) fn of(record: &raw::Loaded) -> Format {
+        match record.numbers.format {
+            3 => Format::V3,
+            _ => Format::V4,
+        }
+    }
+}
+
 /// What a session is opened with. Nothing is judged before [`needs`](Plan::needs) or [`open`](Plan::open) asks the library.
 ///
 /// ```
@@ -62,9 +83,9 @@ pub struct Plan {
     format: Format,
     blocksize: u32,
     planned: u32,
-    prefix: Vec<u8>,
-    ranks: Vec<u64>,
-    sizes: Vec<u64>,
+    pub(crate) prefix: Vec<u8>,
+    pub(crate) ranks: Vec<u64>,
+    pub(crate) sizes: Vec<u64>,
 }
 
 /// What an opening has to be lent.
@@ -150,8 +171,6 @@ impl Plan {
     pub fn needs(&self) -> Result<Needs, Refusal> {
         let needed = raw::needs(self.numbers(), &self.ranks, &self.sizes, &self.prefix);
         accepted(needed.refusal)?;
-        // No slice is as long as usize::MAX: where usize is too narrow for the need, every opening is refused with 18.
-        let length = |need: u64| usize::try_from(need).unwrap_or(usize::MAX);
         Ok(Needs { image: length(needed.image), cells: length(needed.cells) })
     }
 
@@ -169,7 +188,7 @@ impl Plan {
     }
 
     /// What of it is neither a list nor the prefix.
-    fn numbers(&self) -> raw::Plan {
+    pub(crate) fn numbers(&self) -> raw::Plan {
         let Plan { order, version, patch, format, blocksize, planned, .. } = *self;
         let (order, format) = (order as u32, format as u32);
         raw::Plan { order, version, patch, format, blocksize, planned }
@@ -199,8 +218,31 @@ pub struct Session<'a> {
     record: raw::Session,
     image: &'a mut [u8],
     table: &'a mut [i64],
-    /// The bytes in each task's chunk in use.
-    filled: [u64; raw::TASKS],
+    filled: Filled,
+}
+
+/// The bytes in each task's chunk in use.
+pub(crate) struct Filled([u64; raw::TASKS]);
+
+impl Default for Filled {
+    fn default() -> Filled {
+        Filled([0; raw::TASKS])
+    }
+}
+
+impl Filled {
+    /// Counts the bytes of an accepted write, which may have begun a chunk.
+    pub(crate) fn add(&mut self, index: usize, begun: bool, bytes: usize) {
+        if begun {
+            self.0[index] = 0;
+        }
+        self.0[index] += bytes as u64;
+    }
+
+    /// The bytes in a task's chunk in use; without one, 0.
+    pub(crate) fn of(&self, index: usize) -> u64 {
+        self.0[index]
+    }
 }
 
 impl<'a> Session<'a> {
@@ -211,7 +253,7 @@ impl<'a> Session<'a> {
         table: &'a mut [i64],
     ) -> Result<Session<'a>, Refusal> {
         accepted(opened.refusal)?;
-        Ok(Session { record: opened.session, image, table, filled: [0; raw::TASKS] })
+        Ok(Session { record: opened.session, image, table, filled: Filled::default() })
     }
 
     /// Writes bytes to a task, counted from 1: behind its last ones if they fit in its chunk in use, else to its next chunk.
@@ -231,10 +273,8 @@ impl<'a> Session<'a> {
     ) -> Result<(), Refusal> {
         accepted(refusal)?;
         let index = self.index(task)?;
-        if self.chunks_begun(task) != before {
-            self.filled[index] = 0;
-        }
-        self.filled[index] += bytes.len() as u64;
+        let begun = self.chunks_begun(task) != before;
+        self.filled.add(index, begun, bytes.len());
         Ok(())
     }
 
@@ -272,11 +312,6 @@ impl<'a> Session<'a> {
         Ok(self.record.counts[self.index(task)?])
     }
 
-    /// The bytes in the chunk in use of a task, counted from 1; without one, 0.
-    pub(crate) fn filled(&self, task: u64) -> Result<u64, Refusal> {
-        Ok(self.filled[self.index(task)?])
-    }
-
     /// The index of a task, counted from 1, in the lists.
     fn index(&self, task: u64) -> Result<usize, Refusal> {
         let there = (1..=self.tasks() as u64).contains(&task);
@@ -295,8 +330,27 @@ impl fmt::Debug for Session<'_> {
     }
 }
 
+impl Requests for Session<'_> {
+    fn request(&mut self, task: u64, bytes: &[u8]) -> Result<(), Refusal> {
+        self.write(task, bytes)
+    }
+
+    fn holds(&self, task: u64) -> Result<u64, Refusal> {
+        self.chunk_size(task)
+    }
+
+    fn filled(&self, task: u64) -> Result<u64, Refusal> {
+        Ok(self.filled.of(self.index(task)?))
+    }
+}
+
+/// A need as a length. No slice is as long as usize::MAX: where usize is too narrow for the need, every opening is refused with 18.
+pub(crate) fn length(need: u64) -> usize {
+    usize::try_from(need).unwrap_or(usize::MAX)
+}
+
 /// What a chunk of a task with this requested size holds.
-fn held(requested_size: u64, blocksize: u32) -> Result<u64, Refusal> {
+pub(crate) fn held(requested_size: u64, blocksize: u32) -> Result<u64, Refusal> {
     let counted = raw::chunk_size(requested_size, blocksize);
     accepted(counted.refusal)?;
     Ok(counted.bytes)

@@ -1,7 +1,20 @@
-//! Holds a task of a session as something to write to for `std::io`.
+//! Holds a task of a session, or of a pair's sessions, as something to write to for `std::io`.
 
 use crate::{Refusal, Session};
+use std::fmt;
 use std::io::{self, ErrorKind, Write};
+
+/// What takes requests for tasks, each by a number: a session by its task's, a pair's sessions by its rank.
+pub(crate) trait Requests: fmt::Debug {
+    /// Stores bytes, whole or not at all.
+    fn request(&mut self, task: u64, bytes: &[u8]) -> Result<(), Refusal>;
+
+    /// The most bytes that a chunk of the task holds.
+    fn holds(&self, task: u64) -> Result<u64, Refusal>;
+
+    /// The bytes in its chunk in use; without one, 0.
+    fn filled(&self, task: u64) -> Result<u64, Refusal>;
+}
 
 /// A task of an open session to write a stream to, with `write!`, [`io::copy`] and all else that takes a [`Write`].
 ///
@@ -45,7 +58,7 @@ use std::io::{self, ErrorKind, Write};
 /// ```
 #[derive(Debug)]
 pub struct Writer<'s, 'a> {
-    session: &'s mut Session<'a>,
+    session: &'s mut (dyn Requests + 'a),
     task: u64,
     stored: u64,
 }
@@ -53,12 +66,20 @@ pub struct Writer<'s, 'a> {
 impl<'a> Session<'a> {
     /// A task, counted from 1, to write a stream to.
     pub fn writer(&mut self, task: u64) -> Result<Writer<'_, 'a>, Refusal> {
-        self.chunk_size(task)?;
-        Ok(Writer { session: self, task, stored: 0 })
+        Writer::over(self, task)
     }
 }
 
-impl Writer<'_, '_> {
+impl<'s, 'a> Writer<'s, 'a> {
+    /// A writer to a task that is there.
+    pub(crate) fn over(
+        session: &'s mut (dyn Requests + 'a),
+        task: u64,
+    ) -> Result<Writer<'s, 'a>, Refusal> {
+        session.holds(task)?;
+        Ok(Writer { session, task, stored: 0 })
+    }
+
     /// The bytes that this writer has stored.
     pub fn stored(&self) -> u64 {
         self.stored
@@ -66,7 +87,7 @@ impl Writer<'_, '_> {
 
     /// The most bytes that go into one chunk now: the rest of the one in use or, where that is full, the next one.
     fn room(&self) -> Result<u64, Refusal> {
-        let size = self.session.chunk_size(self.task)?;
+        let size = self.session.holds(self.task)?;
         let rest = size - self.session.filled(self.task)?;
         Ok(if rest > 0 { rest } else { size })
     }
@@ -77,7 +98,7 @@ impl Write for Writer<'_, '_> {
     fn write(&mut self, bytes: &[u8]) -> io::Result<usize> {
         let room = usize::try_from(self.room()?).unwrap_or(usize::MAX);
         let bytes = &bytes[..room.min(bytes.len())];
-        self.session.write(self.task, bytes).map_err(|refusal| match refusal {
+        self.session.request(self.task, bytes).map_err(|refusal| match refusal {
             Refusal::NoChunkLeft => io::Error::new(ErrorKind::StorageFull, refusal),
             _ => refusal.into(),
         })?;

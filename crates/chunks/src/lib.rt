@@ -43,7 +43,7 @@ pub fn read_refusal(
 }
 
 // Where the written bytes of a chunk that the tests allow lie in the image.
-fn part_of(l: Loaded, lists: &[u64], image: &[u8], table: &[i64], task: u64, chunk: u64) -> Part
+pub fn part_of(l: Loaded, lists: &[u64], image: &[u8], table: &[i64], task: u64, chunk: u64) -> Part
     requires { ⌜ Readable (containerOf (fileIn (l .head)) l (now lists) (now image) (now table)) task ⌝ }
     requires { ⌜ (1 ≤ chunk) × (chunk ≤ chunksUsed (containerOf (fileIn (l .head)) l (now lists) (now image) (now table)) task) ⌝ }
     ensures { λ r. ⌜ r ≡ chunkPlace (containerOf (fileIn (l .head)) l (now (lists .entry)) (now (image .entry)) (now (table .entry))) task chunk ⌝ }

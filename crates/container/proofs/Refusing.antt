@@ -1,32 +1,32 @@
 -- Demand 1: a refusal is one of the entry's own numbers, and a refused call moves nothing.
 use mathlib.Core.Path.{_≡_, refl, ap, ap₂, _∙_}
-use mathlib.Core.Bool.{Bool, true, false, cond, not}
-use mathlib.Core.List.{List, [], _∷_, _++_}
+use mathlib.Core.Bool.{Bool, true, false, cond}
+use mathlib.Core.List.{List, [], _∷_}
 use Prim.Native.Nat.{ℕ, _<_}
 use native.Mathlib.Omega.{arith}
-use lib.Dec.{ltb, eqb}
+use lib.Dec.{eqb}
 use lib.IntN.{ℤ}
 use lib.ListN.{length, take, drop, replicate}
 use Rattle.format.specs.declared.head.File.{File}
 use Rattle.format.specs.declared.head.Head.{Head}
-use Rattle.format.specs.Refusals.{Test, test, firstFailing}
+use Rattle.format.specs.Refusals.{Test, firstFailing}
 use Rattle.format.specs.Judge.{tasksIn, startTests, fieldTests, fixedTests, rankTests, requestedTests, lastTests, restTests, meta1Tests, countTests, greatestTest, valueTest, valueTests, countsTests, meta2Tests}
 use Rattle.format.proofs.Refusals.{Each, answered, when-refused, number-is}
 use Rattle.format.proofs.Verdicts.{each-append, each-join}
 use Rattle.format.specs.declared.loaded.LoadAnswer.{LoadAnswer}
 use Rattle.format.specs.declared.loaded.Part.{Part}
 use Rattle.format.specs.declared.loaded.ByteCount.{ByteCount}
-use Rattle.format.specs.Record.{recordTests, isTask, noLists}
+use Rattle.format.specs.Record.{recordTests, noLists}
 use Rattle.format.specs.declared.session.Opened.{Opened}
 use Rattle.format.specs.declared.session.Closed.{Closed}
 use Rattle.format.specs.Session.{State, sessionTests}
 use Rattle.format.specs.Open.{Opening, shapeTests, numberTests, planTests, openRefusal, opens, openAnswer, openImage, openFound}
-use Rattle.format.specs.Write.{Request, capacityOf, spot, requestTests, writeRefusal, afterWrite, writeFound, writes, refusals}
+use Rattle.format.specs.Write.{Request, requestTests, writeRefusal, afterWrite, writeFound, writes, refusals}
 use Rattle.lists.specs.Stores.{applied}
 use Rattle.format.specs.Close.{closeRefusal, closeAnswer, closeStores, closeImage, closeFound}
 use Rattle.format.proofs.Storing.{refused-found, refused-write-found, refused-close-found}
 use Rattle.format.proofs.Opening.{needs-number, needs-refused, open-plan, open-short, open-enough, refused-answer, refused-image, refused-table}
-use Rattle.format.proofs.Outcomes.{refused-keeps}
+use Rattle.format.proofs.Outcomes.{refused-keeps, request-numbers}
 use Rattle.format.specs.Load.{loadTests, loadRefusal, loadFault, checkAnswer, loadAnswer, loadTable}
 use Rattle.format.specs.Reads.{Container, loadedTests, readTests, chunkRefusal, chunkBytes, chunkPart, chunkPlace, partAnswer, totalAnswer, readRefusal, readAnswer, readOutput}
 use Rattle.container.specs.Refusing.{loadNumbers, chunkNumbers, readNumbers, totalNumbers, needsNumbers, openNumbers, writeNumbers, sizeNumbers, recordNumbers, LoadRefuses, ChunkRefuses, PartRefuses, TotalRefuses, ReadRefuses, SizeRefuses, LengthRefuses, PrefixRefuses, NeedsRefuses, NeedsSays, OpenRefuses, WriteRefuses, CloseRefuses, Ended}
@@ -39,7 +39,7 @@ use Rattle.format.proofs.Judging.{Other, under, over, session-judged, loaded-ju
 use Rattle.format.specs.Loaded.{noLoaded}
 
 -- the answer to tests whose numbers are all listed
-one-of-tests : (numbers : List ℕ) (ts : List Test) → Each (λ t. listed (0 ∷ numbers) (t .number) ≡ true) ts
+pub one-of-tests : (numbers : List ℕ) (ts : List Test) → Each (λ t. listed (0 ∷ numbers) (t .number) ≡ true) ts
     → OneOf (0 ∷ numbers) (firstFailing ts)
 unfolding listed
 one-of-tests numbers ts h =
@@ -280,30 +280,15 @@ module _ (o : Opening) (image : List ℕ) (table : List ℤ) where
   pub open-within-refuses : (b : ℕ) → OpenRefuses o image table (openFound o image table b)
   open-within-refuses b = opens-refused _ (λ r. refused-found o image table r b)
 
--- with bytes and without
 write-listed : (st : State) (q : Request) → OneOf (0 ∷ writeNumbers) (writeRefusal st q)
-unfolding writeRefusal sessionTests recordTests requestTests listed
-write-listed st q = go (eqb (length (q .bytes)) 0)
-  where
-    go : (b : Bool)
-        → OneOf (0 ∷ writeNumbers)
-        (firstFailing
-        (sessionTests st
-        ++ (test 14 (not (isTask (st .session .head .n) (q .task)))
-        ∷ cond b [] (test 15 (ltb (capacityOf st q) (length (q .bytes))) ∷ test 16 (ltb (st .session .planned) (spot st q .chunk)) ∷ []))))
-    go true = one-of-tests writeNumbers _ (refl, (refl, (refl, (refl, tt))))
-    go false = one-of-tests writeNumbers _ (refl, (refl, (refl, (refl, (refl, (refl, tt))))))
+unfolding writeRefusal sessionTests recordTests listed
+write-listed st q =
+    one-of-tests writeNumbers _ (refl, (refl, (refl, request-numbers st q (λ r. listed (0 ∷ writeNumbers) r ≡ true) refl refl refl)))
 
 pub write-judged : (st : State) (q : Request) → SessionJudged st (writeRefusal st q)
-unfolding writeRefusal requestTests
-write-judged st q = session-judged st (requestTests st q) (go (eqb (length (q .bytes)) 0))
-  where
-    go : (b : Bool)
-        → Each (λ t. Other (t .number))
-        (test 14 (not (isTask (st .session .head .n) (q .task)))
-        ∷ cond b [] (test 15 (ltb (capacityOf st q) (length (q .bytes))) ∷ test 16 (ltb (st .session .planned) (spot st q .chunk)) ∷ []))
-    go true = (under (omega arith), tt)
-    go false = (under (omega arith), (under (omega arith), (under (omega arith), tt)))
+unfolding writeRefusal
+write-judged st q =
+    session-judged st (requestTests st q) (request-numbers st q Other (under (omega arith)) (under (omega arith)) (under (omega arith)))
 
 pub write-refuses : (st : State) (q : Request) → WriteRefuses st q (afterWrite st q)
 write-refuses st q = record { numbered = write-listed st q; moves-nothing = refused-keeps st q }

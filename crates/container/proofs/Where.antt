@@ -1,9 +1,9 @@
 -- A refused load names the first field that breaks its rule: each test of a load judges one field, in the order of the list of fields.
 use mathlib.Core.Path.{_≡_, refl, sym, ap, _∙_}
 use mathlib.Core.Bool.{Bool, true, false, not, _||_, false≢true, or-true}
-use mathlib.Core.List.{List, [], _∷_, _++_}
+use mathlib.Core.List.{List, [], _∷_}
 use mathlib.Core.Logic.{_⊎_, inl, inr}
-use Prim.Native.Nat.{ℕ, zero, suc, _+_, _*_, _^_, _≤_, _<_}
+use Prim.Native.Nat.{ℕ, _+_, _*_, _^_, _≤_, _<_}
 use native.Mathlib.Nat.{lt-of-not-le}
 use native.Mathlib.Omega.{arith}
 use lib.Dec.{ltb, eqb}
@@ -24,11 +24,12 @@ use Rattle.format.specs.Meta1
 use Rattle.format.specs.Meta2
 use Rattle.format.specs.Record.{filesOf, fileOf, isBig, holds, meta2At, endAt}
 use Rattle.format.specs.Kinds
-use Rattle.format.specs.Refusals.{Test, noFault, firstFailing, firstFault}
+use Rattle.format.specs.Refusals.{noFault}
 use Rattle.format.specs.Judge.{is, magicIn, bigIn, orderedIn, tasksIn, maxchunksIn, headIn, sizeIn, meta2In, startTests, fieldTests, fixedTests, rankTests, requestedTests, lastTests, restTests, meta1Tests, countIn, countTests, greatestTest, valueTest, valueTests, countsTests, meta2Tests}
 use Rattle.format.specs.declared.loaded.LoadAnswer.{LoadAnswer}
 use Rattle.format.specs.Load.{meta2Bytes, loadTests, loadRefusal, loadFault, checkAnswer, loadAnswer}
-use Rattle.format.proofs.Refusals.{Numbered, none-fails, Passed, when-accepted}
+use Rattle.format.proofs.Refusals.{Numbered, none-fails, when-accepted}
+use Rattle.format.proofs.Naming.{Naming, Fits, Pairs, pairs-append, pairs-join, AllKeep, find, all-kept}
 use Rattle.format.proofs.Accepting.{magic-there, magic-holds, meta1-numbered, meta2-numbered}
 use Rattle.format.proofs.Verdicts.{each-append}
 use Rattle.format.proofs.Formats.{format-natural, format-known, format-kept, least-idle, idle-least}
@@ -39,109 +40,39 @@ use Rattle.format.proofs.Record.{isBig-order}
 use Rattle.container.specs.Where as w
 use Rattle.container.proofs.Refusing.{load-number, answer-refused}
 
--- ---- a test judges a field; lists of both, side by side
+-- what is said of each field
+abbrev rules : File → List ℕ → ℕ → Naming w.Field
+rules file image cells =
+    record { named = w.named; placeOf = w.placeOf image; saysOf = w.saysOf image cells; Keeps = w.Keeps image file cells }
 
-pub record Fits (file : File) (image : List ℕ) (cells : ℕ) (t : Test) (f : w.Field) : Type 0 where
-  pub names : t .number ∷ t .fault .field ∷ t .fault .task ∷ t .fault .chunk ∷ [] ≡ w.named f
-  pub stands-at : t .fault .place ≡ w.placeOf image f
-  pub says-so : t .fault .says ≡ w.saysOf image cells f
-  pub exact : Exactly (t .fails ≡ false) (w.Keeps image file cells f)
-
-module _ (file : File) (image : List ℕ) (cells : ℕ) where
-  abbrev Pairs : List Test → List w.Field → Type 0
-  Pairs [] [] = Unit {0}
-  Pairs [] (f ∷ fs) = ⊥
-  Pairs (t ∷ ts) [] = ⊥
-  Pairs (t ∷ ts) (f ∷ fs) = Fits file image cells t f × Pairs ts fs
-
-  pairs-append : (ts us : List Test) (fs gs : List w.Field) → Pairs ts fs → Pairs us gs → Pairs (ts ++ us) (fs ++ gs)
-  pairs-append [] us [] gs p q = q
-  pairs-append [] us (f ∷ fs) gs p q = absurd p
-  pairs-append (t ∷ ts) us [] gs p q = absurd p
-  pairs-append (t ∷ ts) us (f ∷ fs) gs p q = (p .0, pairs-append ts us fs gs (p .1) q)
-
-  pairs-join : (ts : ℕ → List Test) (fs : ℕ → List w.Field) (n : ℕ) → ((k : ℕ) → k < n → Pairs (ts k) (fs k)) → Pairs (joinBelow n ts) (joinBelow n fs)
-  unfolding joinBelow
-  pairs-join ts fs zero p = tt
-  pairs-join ts fs (suc n) p =
-      pairs-append (joinBelow n ts) (ts n) (joinBelow n fs) (fs n) (pairs-join ts fs n (λ k l. p k (omega arith))) (p n (omega arith))
-
-  -- the first test that fails names the first field that breaks its rule
-  record Found (ts : List Test) (fs : List w.Field) : Type 0 where
-    field : w.Field
-    earlier : List w.Field
-    later : List w.Field
-    in-order : fs ≡ earlier ++ (field ∷ later)
-    names : firstFailing ts ∷ firstFault ts .field ∷ firstFault ts .task ∷ firstFault ts .chunk ∷ [] ≡ w.named field
-    stands-at : firstFault ts .place ≡ w.placeOf image field
-    says-so : firstFault ts .says ≡ w.saysOf image cells field
-    breaks : Not (w.Keeps image file cells field)
-    kept : w.Every (w.Keeps image file cells) earlier
-
-  find : (ts : List Test) (fs : List w.Field) → Pairs ts fs → 0 < firstFailing ts → Found ts fs
-  unfolding firstFailing firstFault
-  find [] [] p l = absurd (omega arith)
-  find [] (f ∷ fs) p l = absurd p
-  find (t ∷ ts) [] p l = absurd p
-  find (t ∷ ts) (f ∷ fs) p l = go (t .fails) refl (find ts fs (p .1))
-    where
-      go : (b : Bool) → t .fails ≡ b → (0 < firstFailing ts → Found ts fs) → Found (t ∷ ts) (f ∷ fs)
-      go true e rest = record {
-        field = f;
-        earlier = [];
-        later = fs;
-        in-order = refl;
-        names = rw e (p .0 .names);
-        stands-at = rw e (p .0 .stands-at);
-        says-so = rw e (p .0 .says-so);
-        breaks = λ keeps. false≢true (sym (p .0 .exact .1 keeps) ∙ e);
-        kept = tt;
-      }
-      go false e rest =
-          let r = rest (rw e at l) in
-          record {
-            field = r .field;
-            earlier = f ∷ r .earlier;
-            later = r .later;
-            in-order = ap (λ (gs : List w.Field). f ∷ gs) (r .in-order);
-            names = rw e (r .names);
-            stands-at = rw e (r .stands-at);
-            says-so = rw e (r .says-so);
-            breaks = r .breaks;
-            kept = (p .0 .exact .0 e, r .kept);
-          }
-
-  -- where all pass, every field keeps its rule
-  all-kept : (ts : List Test) (fs : List w.Field) → Pairs ts fs → Passed ts → w.Every (w.Keeps image file cells) fs
-  all-kept [] [] p h = tt
-  all-kept [] (f ∷ fs) p h = absurd p
-  all-kept (t ∷ ts) [] p h = absurd p
-  all-kept (t ∷ ts) (f ∷ fs) p h = (p .0 .exact .0 (h .0), all-kept ts fs (p .1) (h .1))
+every : (file : File) (image : List ℕ) (cells : ℕ) (fs : List w.Field) → AllKeep (rules file image cells) fs → w.Every (w.Keeps image file cells) fs
+every file image cells [] k = k
+every file image cells (f ∷ fs) k = (k .0, every file image cells fs (k .1))
 
 -- ---- rules as tests, and back
 
 -- a test that asks for the opposite of a rule
-exactly-not : {K : Type 0} (b : Bool) → (b ≡ true → K) → (K → b ≡ true) → Exactly (not b ≡ false) K
+pub exactly-not : {K : Type 0} (b : Bool) → (b ≡ true → K) → (K → b ≡ true) → Exactly (not b ≡ false) K
 exactly-not b to from = (λ e. to (not-false b e), λ k. ap not (from k))
 
 -- a length that is enough
-exactly-long : (needed len : ℕ) → Exactly (ltb len needed ≡ false) (needed ≤ len)
+pub exactly-long : (needed len : ℕ) → Exactly (ltb len needed ≡ false) (needed ≤ len)
 exactly-long needed len = (ltb-false len needed, le-ltb len needed)
 
 -- a number within its range, and one that has one value
-from-to : (lo hi : ℕ) (z : ℤ) → within lo hi z ≡ true → w.FromTo lo hi z
+pub from-to : (lo hi : ℕ) (z : ℤ) → within lo hi z ≡ true → w.FromTo lo hi z
 from-to lo hi z e = let r = within-natural lo hi z e in (natural z, r .0, r .1, r .2)
 
-to-within : (lo hi : ℕ) (z : ℤ) → w.FromTo lo hi z → within lo hi z ≡ true
+pub to-within : (lo hi : ℕ) (z : ℤ) → w.FromTo lo hi z → within lo hi z ≡ true
 to-within lo hi z (v, is-v, least, most) = rw is-v (within-holds lo hi v least most)
 
-exactly-within : (lo hi : ℕ) (z : ℤ) → Exactly (not (within lo hi z) ≡ false) (w.FromTo lo hi z)
+pub exactly-within : (lo hi : ℕ) (z : ℤ) → Exactly (not (within lo hi z) ≡ false) (w.FromTo lo hi z)
 exactly-within lo hi z = exactly-not (within lo hi z) (from-to lo hi z) (to-within lo hi z)
 
-is-one : (v : ℕ) (z : ℤ) → z ≡ pos v → is v z ≡ true
+pub is-one : (v : ℕ) (z : ℤ) → z ≡ pos v → is v z ≡ true
 is-one v z e = rw e (within-holds v v v (omega arith) (omega arith))
 
-exactly-is : (v : ℕ) (z : ℤ) → Exactly (not (is v z) ≡ false) (z ≡ pos v)
+pub exactly-is : (v : ℕ) (z : ℤ) → Exactly (not (is v z) ≡ false) (z ≡ pos v)
 exactly-is v z = exactly-not (is v z) (within-one v z) (is-one v z)
 
 -- ---- META1's fields
@@ -300,26 +231,29 @@ module _ (file : File) (image : List ℕ) (cells : ℕ) where
 
   -- ---- the tests of a load beside the list of fields
 
-  fixed-pairs : Pairs file image cells (fixedTests image file (length image))
+  fixed-pairs : Pairs (rules file image cells) (fixedTests image file (length image))
       (w.mark ∷ w.order ∷ w.fixedFit ∷ w.format ∷ w.blocksize ∷ w.tasks ∷ w.files ∷ w.fileNumber ∷ w.meta1Fit ∷ [])
   unfolding fixedTests startTests fieldTests tasksIn meta1End
   fixed-pairs = (
     record { names = refl; stands-at = refl; says-so = refl; exact = mark-fits file image cells },
-    (
+    λ _. (
       record { names = refl; stands-at = refl; says-so = refl; exact = order-fits file image cells },
-      (
+      λ _. (
         record { names = refl; stands-at = refl; says-so = refl; exact = exactly-long 1076 (length image) },
-        (
+        λ _. (
           record { names = refl; stands-at = refl; says-so = refl; exact = format-fits file image cells },
-          (
+          λ _. (
             record { names = refl; stands-at = refl; says-so = refl; exact = blocksize-fits file image cells },
-            (
+            λ _. (
               record { names = refl; stands-at = refl; says-so = refl; exact = tasks-fits file image cells },
-              (
+              λ _. (
                 record { names = refl; stands-at = refl; says-so = refl; exact = exactly-is (filesOf file) (w.int image 28) },
-                (
+                λ _. (
                   record { names = refl; stands-at = refl; says-so = refl; exact = exactly-is (fileOf file) (w.int image 32) },
-                  (record { names = refl; stands-at = refl; says-so = refl; exact = exactly-long (1088 + 16 * w.n image) (length image) }, tt),
+                  λ _. (
+                    record { names = refl; stands-at = refl; says-so = refl; exact = exactly-long (1088 + 16 * w.n image) (length image) },
+                    λ _. tt,
+                  ),
                 ),
               ),
             ),
@@ -329,42 +263,46 @@ module _ (file : File) (image : List ℕ) (cells : ℕ) where
     ),
   )
 
-  rank-pairs : Pairs file image cells (rankTests image) (listBelow (w.n image) w.rank)
+  rank-pairs : Pairs (rules file image cells) (rankTests image) (listBelow (w.n image) w.rank)
   unfolding rankTests tasksIn
   rank-pairs =
-      pairs-join file image cells _ (λ i. w.rank i ∷ []) (w.n image)
-      (λ i l. (record { names = refl; stands-at = refl; says-so = refl; exact = rank-fits file image cells i }, tt))
+      pairs-join (rules file image cells) _ (λ i. w.rank i ∷ []) (w.n image)
+      (λ i l. (record { names = refl; stands-at = refl; says-so = refl; exact = rank-fits file image cells i }, λ _. tt))
 
-  size-pairs : Pairs file image cells (requestedTests image) (listBelow (w.n image) w.size)
+  size-pairs : Pairs (rules file image cells) (requestedTests image) (listBelow (w.n image) w.size)
   unfolding requestedTests tasksIn
   size-pairs =
-      pairs-join file image cells _ (λ i. w.size i ∷ []) (w.n image)
-      (λ i l. (record { names = refl; stands-at = refl; says-so = refl; exact = exactly-within 1 maxSize (w.long image (1076 + 8 * w.n image + 8 * i)) }, tt))
+      pairs-join (rules file image cells) _ (λ i. w.size i ∷ []) (w.n image)
+      (λ i l. (
+        record { names = refl; stands-at = refl; says-so = refl; exact = exactly-within 1 maxSize (w.long image (1076 + 8 * w.n image + 8 * i)) },
+        λ _. tt,
+      ))
 
-  last-pairs : Pairs file image cells (lastTests image (length image)) (w.closed ∷ w.maxchunks ∷ w.start ∷ w.meta2Fit ∷ [])
+  last-pairs : Pairs (rules file image cells) (lastTests image (length image)) (w.closed ∷ w.maxchunks ∷ w.start ∷ w.meta2Fit ∷ [])
   unfolding lastTests tasksIn maxchunksIn headIn sizeIn meta2In meta2At endAt
   last-pairs = (
     record { names = refl; stands-at = refl; says-so = refl; exact = closed-fits file image cells },
-    (
+    λ _. (
       record { names = refl; stands-at = refl; says-so = refl; exact = maxchunks-fits file image cells },
-      (
+      λ _. (
         record { names = refl; stands-at = refl; says-so = refl; exact = exactly-is (w.meta2 image) (w.long image (1076 + 16 * w.n image + 4)) },
-        (record { names = refl; stands-at = refl; says-so = refl; exact = exactly-long (w.end image) (length image) }, tt),
+        λ _. (record { names = refl; stands-at = refl; says-so = refl; exact = exactly-long (w.end image) (length image) }, λ _. tt),
       ),
     ),
   )
 
-  count-pairs : Pairs file image cells (countTests (headIn image) (sizeIn image) (maxchunksIn image) (meta2In image) (meta2Bytes image))
+  count-pairs : Pairs (rules file image cells) (countTests (headIn image) (sizeIn image) (maxchunksIn image) (meta2In image) (meta2Bytes image))
       (listBelow (w.n image) w.count)
   unfolding countTests headIn tasksIn sizeIn maxchunksIn meta2In meta2At
   count-pairs =
-      pairs-join file image cells _ (λ i. w.count i ∷ []) (w.n image)
+      pairs-join (rules file image cells) _ (λ i. w.count i ∷ []) (w.n image)
       (λ i l. (
         record { names = refl; stands-at = refl; says-so = count-read i l; exact = rw (count-read i l) (count-exact (w.long image (w.meta2 image + 8 * i))) },
-        tt,
+        λ _. tt,
       ))
 
-  greatest-fits : Fits file image cells (greatestTest (headIn image) (sizeIn image) (maxchunksIn image) (meta2In image) (meta2Bytes image)) w.greatest
+  greatest-fits : Fits (rules file image cells)
+      (greatestTest (headIn image) (sizeIn image) (maxchunksIn image) (meta2In image) (meta2Bytes image)) w.greatest
   unfolding greatestTest countIn headIn tasksIn sizeIn maxchunksIn meta2In meta2At
   greatest-fits =
       let counts : ℕ → ℕ = λ i. natural (Meta2.countField big (meta2Bytes image) i) in
@@ -377,13 +315,13 @@ module _ (file : File) (image : List ℕ) (cells : ℕ) where
             exactly-not (eqb (greatestBelow (w.n image) counts) (w.most image)) (λ e. sym same ∙ eqb-true _ _ e) (λ keeps. eq-eqb _ _ (same ∙ keeps));
       }
 
-  value-pairs : Pairs file image cells (valueTests (headIn image) (sizeIn image) (maxchunksIn image) (meta2In image) (meta2Bytes image))
+  value-pairs : Pairs (rules file image cells) (valueTests (headIn image) (sizeIn image) (maxchunksIn image) (meta2In image) (meta2Bytes image))
       (joinBelow (w.most image) (λ k. listBelow (w.n image) (w.value k)))
   unfolding valueTests valueTest countIn holds headIn tasksIn sizeIn maxchunksIn meta2In meta2At
   value-pairs =
-      pairs-join file image cells _ (λ k. listBelow (w.n image) (w.value k)) (w.most image)
+      pairs-join (rules file image cells) _ (λ k. listBelow (w.n image) (w.value k)) (w.most image)
       (λ k h.
-      pairs-join file image cells _ (λ i. w.value k i ∷ []) (w.n image)
+      pairs-join (rules file image cells) _ (λ i. w.value k i ∷ []) (w.n image)
       (λ i l. (
         record {
           names = refl;
@@ -394,19 +332,21 @@ module _ (file : File) (image : List ℕ) (cells : ℕ) where
               (value-exact (natural (w.long image (w.meta2 image + 8 * i))) k (capacity (natural (w.int image 20)) (w.sizeIn image i))
               (w.long image (w.meta2 image + 8 * w.n image + 8 * (k * w.n image + i))));
         },
-        tt,
+        λ _. tt,
       )))
 
-  pairs : Pairs file image cells (loadTests file image cells) (w.judged image)
+  pairs : Pairs (rules file image cells) (loadTests file image cells) (w.judged image)
   unfolding loadTests meta1Tests restTests countsTests meta2Tests tasksIn maxchunksIn
   pairs =
-      pairs-append file image cells (meta1Tests image file (length image)) _ _ _
-      (pairs-append file image cells (fixedTests image file (length image)) _ _ _ fixed-pairs
-      (pairs-append file image cells (rankTests image) _ _ _ rank-pairs (pairs-append file image cells (requestedTests image) _ _ _ size-pairs last-pairs))) (
+      pairs-append (rules file image cells) (meta1Tests image file (length image)) _ _ _
+      (pairs-append (rules file image cells) (fixedTests image file (length image)) _ _ _ fixed-pairs
+      (pairs-append (rules file image cells) (rankTests image) _ _ _ rank-pairs
+      (pairs-append (rules file image cells) (requestedTests image) _ _ _ size-pairs last-pairs))) (
         record { names = refl; stands-at = refl; says-so = refl; exact = exactly-long (w.n image * w.most image) cells },
-        pairs-append file image cells (countsTests (headIn image) (sizeIn image) (maxchunksIn image) (meta2In image) (meta2Bytes image)) _ _ _
-            (pairs-append file image cells (countTests (headIn image) (sizeIn image) (maxchunksIn image) (meta2In image) (meta2Bytes image)) _ _ _ count-pairs
-            (greatest-fits, tt))
+        λ _.
+            pairs-append (rules file image cells) (countsTests (headIn image) (sizeIn image) (maxchunksIn image) (meta2In image) (meta2Bytes image)) _ _ _
+            (pairs-append (rules file image cells) (countTests (headIn image) (sizeIn image) (maxchunksIn image) (meta2In image) (meta2Bytes image))
+            _ _ _ count-pairs (greatest-fits, λ _. tt))
             value-pairs,
       )
 
@@ -427,7 +367,7 @@ module _ (file : File) (image : List ℕ) (table : List ℤ) where
     refused = λ l.
         let cells = length table in
         let some : 0 < loadRefusal file image cells = rw (load-number file image table) at l in
-        let f = find file image cells (loadTests file image cells) (w.judged image) (pairs file image cells) some in
+        let f = find (rules file image cells) (loadTests file image cells) (w.judged image) (pairs file image cells) some in
         rw (answer-refused file image table some) (record {
           field = f .field;
           earlier = f .earlier;
@@ -437,13 +377,14 @@ module _ (file : File) (image : List ℕ) (table : List ℤ) where
           stands-at = f .stands-at;
           says-so = f .says-so;
           breaks = f .breaks;
-          kept = f .kept;
+          kept = every file image cells (f .earlier) (f .kept);
         });
     accepted = λ e.
         let cells = length table in
         let none : loadRefusal file image cells ≡ 0 = sym (load-number file image table) ∙ e in (
           nothing-broken none,
-          all-kept file image cells (loadTests file image cells) (w.judged image) (pairs file image cells)
-              (none-fails (loadTests file image cells) (load-numbered file image cells) none),
+          every file image cells (w.judged image)
+              (all-kept (rules file image cells) (loadTests file image cells) (w.judged image) (pairs file image cells)
+              (none-fails (loadTests file image cells) (load-numbered file image cells) none)),
         );
   }

@@ -163,11 +163,11 @@ module _ (s : Start) (is : IsStart s) (front : HasFront s) (qs : List Request) w
     back : ReadsBack whole contents loaded
     back = reads-back (o .file) whole contents one two cells loads
 
-    stream-said : (i : ℕ) → i < tasks o → streamSaid whole contents i ≡ bytes i
+    pub stream-said : (i : ℕ) → i < tasks o → streamSaid whole contents i ≡ bytes i
     unfolding streamSaid streamIn
     stream-said i l = join-cong _ _ _ (λ k u. bytes-same o st closable tail i k l u) ∙ stream-accepted i l
 
-    total-said : (i : ℕ) → i < tasks o → totalSaid contents i ≡ length (bytes i)
+    pub total-said : (i : ℕ) → i < tasks o → totalSaid contents i ≡ length (bytes i)
     unfolding totalSaid streamSaid
     total-said i l =
         sym (length-joined (bytesSaid whole contents i) (λ k. contents .written k i) (contents .count i) (λ k u. back .whole i k l u))

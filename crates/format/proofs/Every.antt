@@ -107,7 +107,7 @@ module _ (f : File) (image : List ℕ) (s : Contents) (one : HasMeta1 f image s)
   -- ---- what is read of the image is what it says
 
   -- its fields before the last two hold what it says of them
-  front : FrontSays f image (s .big) (s .format) (s .blocksize) (s .n) (s .rank) (s .size)
+  pub front : FrontSays f image (s .big) (s .format) (s .blocksize) (s .n) (s .rank) (s .size)
   front = record {
     bounds = one .bounds;
     long = one .long;
@@ -126,7 +126,7 @@ module _ (f : File) (image : List ℕ) (s : Contents) (one : HasMeta1 f image s)
   maxchunks-is : maxchunksIn image ≡ s .maxchunks
   maxchunks-is = maxchunks-said front (one .maxchunks-is)
 
-  rank-is : (i : ℕ) → i < s .n → rankIn image i ≡ s .rank i
+  pub rank-is : (i : ℕ) → i < s .n → rankIn image i ≡ s .rank i
   unfolding rankIn
   rank-is i l = rw (big-is front) (ap natural (one .ranks-are i l))
 
@@ -143,7 +143,7 @@ module _ (f : File) (image : List ℕ) (s : Contents) (one : HasMeta1 f image s)
     file = ap natural (ap (λ (b : Bool). Meta1.fileNumberField b image) (big-is front) ∙ one .file-number-is) i;
   }
 
-  end-said : endAt (headIn image) (sizeIn image) (maxchunksIn image) ≡ meta2End (s .blocksize) (s .n) (s .size) (s .maxchunks)
+  pub end-said : endAt (headIn image) (sizeIn image) (maxchunksIn image) ≡ meta2End (s .blocksize) (s .n) (s .size) (s .maxchunks)
   unfolding endAt
   end-said = rw (head-is, maxchunks-is) (endAt-agree (headSaid f s) (sizeIn image) (s .size) (size-is front) (s .maxchunks))
 

@@ -85,7 +85,7 @@ module _ (h : Head) (lists : List ℕ) where
 
   -- 18 and 19, for m chunks
   module _ (m : ℕ) (image : List ℕ) (table : List ℤ) where
-    long-exactly : Exactly (tooShort (h .blocksize) (h .n) (sizeOf lists) m (length image) (length table) ≡ false)
+    pub long-exactly : Exactly (tooShort (h .blocksize) (h .n) (sizeOf lists) m (length image) (length table) ≡ false)
         (LongEnough (h .blocksize) (h .n) (sizeOf lists) m image table)
     unfolding tooShort meta2End meta2Start meta2Length
     long-exactly =
@@ -97,7 +97,7 @@ module _ (h : Head) (lists : List ℕ) where
           λ g. or-both (le-ltb (length image) end (g .image-long)) (le-ltb (length table) (h .n * m) (g .table-long)),
         )
 
-    cells-exactly : Exactly (not (cellsAgree h lists m table) ≡ false) (GoodCells h lists m table)
+    pub cells-exactly : Exactly (not (cellsAgree h lists m table) ≡ false) (GoodCells h lists m table)
     unfolding cellsAgree holds
     cells-exactly = (
       λ e.
@@ -117,14 +117,14 @@ module _ (h : Head) (lists : List ℕ) where
 
 -- 17: a record is not marked closed and its numbers are sound
 module _ (closed : ℕ) (sound : Bool) where
-  mark-test : (not (eqb closed 0) || not sound) ≡ false → (closed ≡ 0) × (sound ≡ true)
+  pub mark-test : (not (eqb closed 0) || not sound) ≡ false → (closed ≡ 0) × (sound ≡ true)
   mark-test e =
       (eqb-true closed 0 (not-false _ (or-left (not (eqb closed 0)) _ e)), not-false _ (or-right (not (eqb closed 0)) _ e))
 
-  mark-passes : closed ≡ 0 → sound ≡ true → (not (eqb closed 0) || not sound) ≡ false
+  pub mark-passes : closed ≡ 0 → sound ≡ true → (not (eqb closed 0) || not sound) ≡ false
   mark-passes e f = or-both (ap not (eq-eqb closed 0 e)) (ap not f)
 
-session-exactly : (f : File) (s : Session) (lists : List ℕ)
+pub session-exactly : (f : File) (s : Session) (lists : List ℕ)
     → Exactly ((not (eqb (s .closed) 0) || not (sessionSound f s lists)) ≡ false) (GoodSession f s lists)
 session-exactly f s lists = (
   λ e.
@@ -154,7 +154,7 @@ module _ (f : File) (l : Loaded) (lists : List ℕ) where
             (λ i below. within-holds _ (l .maxchunks) (countOf lists i) (idle-least (λ four. g .counts-idle four i below)) (g .counts-range i below)) i below top,
       ) (suits-holds f (l .head) (g .head .files) (g .head .file))
 
-  loaded-exactly : Exactly ((not (eqb (l .closed) 0) || not (loadedSound f l lists)) ≡ false) (GoodLoaded f l lists)
+  pub loaded-exactly : Exactly ((not (eqb (l .closed) 0) || not (loadedSound f l lists)) ≡ false) (GoodLoaded f l lists)
   loaded-exactly = (
     λ e.
         let (not-closed, sound) = mark-test (l .closed) (loadedSound f l lists) e in
@@ -207,7 +207,7 @@ judged false false false rest s l a other = record {
 }
 
 -- what follows them has other numbers
-other-tests : (ts : List Test) → Each (λ t. Other (t .number)) ts → Other (firstFailing ts)
+pub other-tests : (ts : List Test) → Each (λ t. Other (t .number)) ts → Other (firstFailing ts)
 other-tests ts each = answered Other ts (under (omega arith)) each
 
 -- ---- the entries

@@ -4,6 +4,7 @@ pub mod Power
 pub mod Bounds
 pub mod Chunks
 pub mod Refusals
+pub mod Naming
 pub mod Verdicts
 pub mod Filled
 pub mod Stripes

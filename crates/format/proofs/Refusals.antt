@@ -1,6 +1,6 @@
 -- Laws of `firstFailing`: one list after another, all tests passed, and the numbers that can be answered.
 use mathlib.Core.Path.{_≡_, refl, sym, _∙_}
-use mathlib.Core.Bool.{Bool, true, false, cond}
+use mathlib.Core.Bool.{Bool, true, false, cond, _||_}
 use mathlib.Core.List.{List, [], _∷_, _++_}
 use Prim.Native.Nat.{ℕ, zero, suc, _<_}
 use native.Mathlib.Omega.{arith}
@@ -41,6 +41,19 @@ first-fails (t ∷ ts) ys h = go (t .fails) h (first-fails ts ys)
         → cond b (t .number) (firstFailing (ts ++ ys)) ≡ cond b (t .number) (firstFailing ts)
     go true h rest = refl
     go false h rest = rest h
+
+-- so what holds of both answers holds of the answer to one list after the other
+pub answered-append : (P : ℕ → Type 0) (xs ys : List Test) → Numbered xs → P (firstFailing xs) → P (firstFailing ys) → P (firstFailing (xs ++ ys))
+answered-append P xs ys h p q = go (firstFailing xs) refl
+  where
+    go : (r : ℕ) → firstFailing xs ≡ r → P (firstFailing (xs ++ ys))
+    go zero e = rw (first-passes xs ys h e) q
+    go (suc r) e = rw (first-fails xs ys (omega arith)) p
+
+-- two tests with one number
+pub either-fails : (a b : Bool) (number rest : ℕ) → cond a number (cond b number rest) ≡ cond (a || b) number rest
+either-fails true b number rest = refl
+either-fails false b number rest = refl
 
 -- where both pass, each does
 pub both-pass : (xs ys : List Test) → Numbered xs → firstFailing (xs ++ ys) ≡ 0 → (firstFailing xs ≡ 0) × (firstFailing ys ≡ 0)

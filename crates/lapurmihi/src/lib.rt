@@ -1,5 +1,5 @@
 // The container's entries for C and Rust, with their own promises. The header is include/lapurmihi.h. A record is its numbers by value and its
-// lists as one lent array; a function whose name ends in `_lent` takes it so.
+// lists as one lent array; a function whose name ends in `_lent` takes it so. A pair's entries are the crate `lapurmihi_pair`, in the same library.
 ghost use mathlib.Core.Path.{_≡_};
 ghost use Prim.Native.Nat.{_+_, _≤_};
 ghost use lib.ListN.{length};

@@ -11,7 +11,7 @@ use native.Mathlib.Omega.{arith}
 use lib.Dec.{ltb, leb}
 use lib.ListN.{length, take, drop, getD, set, length-append, length-drop, take-append-drop}
 use lib.Seq.{length-take-le, take-nil, take-take, take-at, take-add, take-append-seam, take-append-le, drop-at, drop-drop, drop-append-le, drop-length}
-use lib.Seq.{getD-take, getD-drop, set-split}
+use lib.Seq.{getD-take, getD-drop, set-split, ext-getD}
 use borrow.Author.Tests.{ltb-true, ltb-false, leb-true, leb-false}
 use Rattle.lists.specs.Below.{joinBelow, listBelow}
 use Rattle.lists.proofs.Below.{join-more, length-join, length-list, getD-list}
@@ -254,3 +254,34 @@ splice-agree xs ys at vs x d fits fits′ same = ⊎-elim inside outside (within
         let in-at : at + (x - at) ≡ x = omega arith in
         rw (← in-at)
         (getD-splice-in xs at vs fits (x - at) d (omega arith) ∙ sym (getD-splice-in ys at vs fits′ (x - at) d (omega arith)))
+
+-- two splices, one before the other, in either order
+pub splice-swap : (xs : List ℕ) (a : ℕ) (us : List ℕ) (b : ℕ) (vs : List ℕ) → a + length us ≤ b → b + length vs ≤ length xs
+    → splice (splice xs b vs) a us ≡ splice (splice xs a us) b vs
+splice-swap xs a us b vs before fits =
+    ext-getD 0 _ _ (length-splice (splice xs b vs) a us fits-v ∙ long-v ∙ sym (length-splice (splice xs a us) b vs fits-u ∙ long-u))
+    (λ x l. go x (within-or-not b (length vs) x))
+  where
+    fits-a : a + length us ≤ length xs
+    fits-a = omega arith
+
+    long-u : length (splice xs a us) ≡ length xs
+    long-u = length-splice xs a us fits-a
+
+    long-v : length (splice xs b vs) ≡ length xs
+    long-v = length-splice xs b vs fits
+
+    fits-u : b + length vs ≤ length (splice xs a us)
+    fits-u = omega (arith, long-u)
+
+    fits-v : a + length us ≤ length (splice xs b vs)
+    fits-v = omega (arith, long-v)
+
+    go : (x : ℕ) → ((b ≤ x) × (x < b + length vs)) ⊎ ((x < b) ⊎ (b + length vs ≤ x))
+        → getD (splice (splice xs b vs) a us) x 0 ≡ getD (splice (splice xs a us) b vs) x 0
+    go x (inl here) =
+        getD-splice-out (splice xs b vs) a us fits-v x 0 (inr (omega arith))
+        ∙ splice-agree xs (splice xs a us) b vs x 0 fits fits-u (λ out. sym (getD-splice-out xs a us fits-a x 0 (inr (omega arith))))
+    go x (inr out) =
+        splice-agree (splice xs b vs) xs a us x 0 fits-v fits-a (λ _. getD-splice-out xs b vs fits x 0 out)
+        ∙ sym (getD-splice-out (splice xs a us) b vs fits-u x 0 out)

@@ -1,25 +1,26 @@
 -- The entries of the mapping as code makes them are those of the rules.
-use mathlib.Core.Path.{_≡_, refl, sym, ap, ap₂, _∙_}
-use mathlib.Core.Bool.{Bool, true, false, cond, not}
+use mathlib.Core.Path.{_≡_, ap, _∙_}
+use mathlib.Core.Bool.{Bool, true, false, cond}
 use mathlib.Core.List.{List, _++_}
-use Prim.Native.Nat.{ℕ, _+_, _-_, _*_, _≤_, _<_}
+use Prim.Native.Nat.{ℕ, _+_, _-_, _*_, _≤_}
 use native.Mathlib.Omega.{arith}
-use lib.Dec.{ltb, eqb}
+use lib.Dec.{ltb}
 use lib.ListN.{length, take, length-append}
 use lib.Seq.{take-at}
-use borrow.Author.Tests.{lt-ltb, le-ltb, ltb-true, eqb-false, ne-eqb, not-true}
+use borrow.Author.Tests.{lt-ltb, le-ltb}
 use Rattle.endian.specs.Number.{digits}
 use Rattle.endian.proofs.Number.{length-digits}
 use Rattle.lists.specs.Splice.{splice}
 use Rattle.lists.proofs.Splice.{put-first, put-then}
 use Rattle.lists.specs.Below.{joinBelow}
-use Rattle.lists.proofs.Below.{join-cong, all-at, length-list, length-join}
+use Rattle.lists.proofs.Below.{join-cong, length-list, length-join}
 use Rattle.format.specs.Limits.{maxTasks}
 use Rattle.format.specs.Record.{entry}
-use Rattle.pairs.specs.Ranks.{carrier, noneLacking, inSecond, localRank}
+use Rattle.pairs.specs.Ranks.{noneLacking, inSecond, localRank}
 use Rattle.pairs.specs.Mapping.{mappingLength, mapping}
 use Rattle.ranks.specs.Holders.{holder, holders}
-use Rattle.ranks.proofs.Holding.{lacking-held, holder-at}
+use Rattle.ranks.proofs.Holding.{holder-at}
+use Rattle.ranks.proofs.Finding.{Place, in-first, in-second, place}
 use Rattle.mapping.specs.Entries.{taskIn, entryBytes, AllHeld}
 
 pub length-entry : (big second : Bool) (task : ℕ) → length (entryBytes big second task) ≡ 8
@@ -36,46 +37,26 @@ task-small n holder = go (ltb n holder)
     go false = omega arith
 
 module _ (n m : ℕ) (rank rank′ : ℕ → ℕ) where
-  -- the two ways in which a rank that is not lacking has its task
-  pub data Place (r : ℕ) : Type 0 where
-    in-first : inSecond n m rank rank′ r ≡ false → localRank n m rank rank′ r < n → holder n m rank rank′ r ≡ localRank n m rank rank′ r + 1 → Place r
-    in-second : inSecond n m rank rank′ r ≡ true → localRank n m rank rank′ r < m → holder n m rank rank′ r ≡ n + localRank n m rank rank′ r + 1 → Place r
-
-  module _ (none : noneLacking n m rank rank′ ≡ true) (r : ℕ) (below : r < n + m) where
-    some-held : (holder n m rank rank′ r ≡ 0) → ⊥
-    some-held = eqb-false _ 0 (not-true _ (all-at _ (n + m) r below (sym (lacking-held n m rank rank′) ∙ none)))
-
-    pub place : Place r
-    unfolding holder inSecond localRank
-    place = go (ltb (carrier n rank r) n) refl (ltb (carrier m rank′ r) m) refl
-      where
-        go : (a : Bool) → ltb (carrier n rank r) n ≡ a → (b : Bool) → ltb (carrier m rank′ r) m ≡ b → Place r
-        go true e b f =
-            in-first (rw e) (rw e (ltb-true (carrier n rank r) n e))
-            (rw (e, ne-eqb (0 + carrier n rank r + 1) 0 (λ z. omega arith)) (omega arith))
-        go false e true f = in-second (rw e) (rw e (ltb-true (carrier m rank′ r) m f)) (rw (e, f))
-        go false e false f = absurd (some-held (rw (e, f)))
-
   -- each rank has a task in the row
   pub all-held : n ≤ maxTasks → m ≤ maxTasks → noneLacking n m rank rank′ ≡ true → AllHeld (n + m) (holders n m rank rank′)
   unfolding holders
   all-held few few′ none = record {
     few = omega arith;
     listed = rw length-list (omega arith);
-    some = λ r l. rw (holder-at n m rank rank′ r (omega arith) l) (least r (place none r l));
-    most = λ r l. rw (holder-at n m rank rank′ r (omega arith) l) (most r (place none r l));
+    some = λ r l. rw (holder-at n m rank rank′ r (omega arith) l) (least r (place n m rank rank′ none r l));
+    most = λ r l. rw (holder-at n m rank rank′ r (omega arith) l) (most r (place n m rank rank′ none r l));
   }
     where
-      least : (r : ℕ) → Place r → 1 ≤ holder n m rank rank′ r
+      least : (r : ℕ) → Place n m rank rank′ r → 1 ≤ holder n m rank rank′ r
       least r (in-first _ _ e) = omega arith
       least r (in-second _ _ e) = omega arith
 
-      most : (r : ℕ) → Place r → holder n m rank rank′ r ≤ n + m
+      most : (r : ℕ) → Place n m rank rank′ r → holder n m rank rank′ r ≤ n + m
       most r (in-first _ l e) = omega arith
       most r (in-second _ l e) = omega arith
 
   -- and its entry is that of the rules
-  entry-is : (big : Bool) (r : ℕ) → Place r
+  entry-is : (big : Bool) (r : ℕ) → Place n m rank rank′ r
       → entryBytes big (ltb n (holder n m rank rank′ r)) (taskIn n (holder n m rank rank′ r))
       ≡ entryBytes big (inSecond n m rank rank′ r) (localRank n m rank rank′ r)
   unfolding taskIn
@@ -92,7 +73,7 @@ module _ (n m : ℕ) (rank rank′ : ℕ → ℕ) where
       → joinBelow (n + m) (λ r. entryBytes big (ltb n (entry (holders n m rank rank′) r)) (taskIn n (entry (holders n m rank rank′) r)))
       ≡ joinBelow (n + m) (λ r. entryBytes big (inSecond n m rank rank′ r) (localRank n m rank rank′ r))
   entries-are big few few′ none =
-      join-cong _ _ (n + m) (λ r l. rw (holder-at n m rank rank′ r (omega arith) l) (entry-is big r (place none r l)))
+      join-cong _ _ (n + m) (λ r l. rw (holder-at n m rank rank′ r (omega arith) l) (entry-is big r (place n m rank rank′ none r l)))
 
   abbrev entries : Bool → List ℕ
   entries big = joinBelow (n + m) (λ r. entryBytes big (inSecond n m rank rank′ r) (localRank n m rank rank′ r))

@@ -25,7 +25,7 @@ use Rattle.pair_loading.proofs.Accepted.{number-of, answer-is}
 
 -- ---- one file
 
-load-numbered : (f : File) (image : List ℕ) (cells : ℕ) → Numbered (loadTests f image cells)
+pub load-numbered : (f : File) (image : List ℕ) (cells : ℕ) → Numbered (loadTests f image cells)
 unfolding loadTests
 load-numbered f image cells =
     each-append _ (meta1Tests image f (length image)) _ (meta1-numbered image f (length image))

@@ -24,7 +24,7 @@ use Rattle.pairs.proofs.Opening.{plan-numbered}
 use Rattle.pair_opening.specs.Short.{shortOf}
 
 module _ (o o′ : Opening) where
-  pair-numbered : Numbered (pairPlanTests o o′)
+  pub pair-numbered : Numbered (pairPlanTests o o′)
   unfolding pairPlanTests
   pair-numbered =
       each-append _ (planTests o) _ (plan-numbered o) (each-append _ (planTests o′) _ (plan-numbered o′) (omega arith, tt))
@@ -111,6 +111,10 @@ module _ (o o′ : Opening) where
       pub refused-found : (b b′ : ℕ) → pairFound o o′ image table image′ table′ b b′ ≡ (image, image′)
       unfolding pairFound pairOpens
       refused-found b b′ = when-refused number _ _ some
+
+      pub refused-images : pairImages o o′ image table image′ table′ ≡ (image, image′)
+      unfolding pairImages pairOpens
+      refused-images = when-refused number _ _ some
 
       pub refused-tables : pairTables o o′ image table image′ table′ ≡ (table, table′)
       unfolding pairTables pairOpens

@@ -14,6 +14,7 @@ use Rattle.format.specs.Layout.{meta1End, dataStart, globalskip, chunkStart}
 use Rattle.format.specs.Record.{entry, orderOf, headOf}
 use Rattle.format.specs.Session.{State, stateOf, sessionOf}
 use Rattle.format.specs.Open.{Opening, openingOf, openStores}
+use Rattle.format.specs.Write.{Request, requestOf}
 use Rattle.format.specs.Loaded.{loadedOf}
 use Rattle.format.specs.Reads.{containerOf}
 use Rattle.format.specs.Numbers.{Row, row, recordOf}
@@ -78,14 +79,14 @@ openingEdges b b′ =
 
 -- ---- requests: so many bytes of one value by a rank, 10 and the rank in its first chunk, and 20 and the rank in its second
 
-abbrev pub by : ℕ → ℕ → ℕ → Sessions.PairRequest
-by rank bytes value = Sessions.pairRequest rank (replicate bytes value)
+abbrev pub by : ℕ → ℕ → ℕ → Request
+by rank bytes value = requestOf rank (replicate bytes value)
 
-abbrev pub accepted : List Sessions.PairRequest
+abbrev pub accepted : List Request
 accepted = by 2 500 12 ∷ by 1 512 11 ∷ by 0 1024 10 ∷ by 2 13 22 ∷ by 1 1 21 ∷ []
 
 -- more than a chunk of rank 0 holds, and of rank 1; more than is left to rank 1; no such rank, and also with no byte; no byte
-abbrev pub further : List Sessions.PairRequest
+abbrev pub further : List Request
 further = by 0 1025 99 ∷ by 1 513 99 ∷ by 1 512 99 ∷ by 3 1 99 ∷ by 3 0 99 ∷ by 0 0 99 ∷ []
 
 abbrev pub written : ℕ → ℕ → Sessions.Pair
@@ -262,7 +263,7 @@ closingParts1 b =
     take 12 (drop 1092 image) ++ take 1 (drop 2560 image) ++ take 2 (drop 2583 image)
 
 -- one write within budgets: three bytes of both images from 1536 on, and the first cell of both tables
-abbrev pub cutWrite : Sessions.PairRequest → ℕ → ℕ → List ℤ
+abbrev pub cutWrite : Request → ℕ → ℕ → List ℤ
 cutWrite q b b′ =
     let p = Sessions.pairWriteFound (fresh false false) q b b′ in
     map pos (take 3 (drop 1536 (p .first .image)) ++ take 3 (drop 1536 (p .second .image))) ++ (take 1 (p .first .table) ++ take 1 (p .second .table))

@@ -22,14 +22,6 @@ pub record Pair : Type 0 where
 abbrev pub pairOf : State → State → Pair
 pairOf first second = record { first = first; second = second }
 
--- a request names a global rank
-pub record PairRequest : Type 0 where
-  pub rank : ℕ
-  pub bytes : List ℕ
-
-abbrev pub pairRequest : ℕ → List ℕ → PairRequest
-pairRequest rank bytes = record { rank = rank; bytes = bytes }
-
 -- the tests of 18 and 19 of one file
 abbrev pub lentOf : State → List Test
 lentOf st = lentTests (st .session .head) (st .lists) (st .session .planned) (st .image) (st .table)
@@ -81,34 +73,34 @@ module _ (p : Pair) where
   abbrev pub withState : ℕ → State → Pair
   withState r st = cond (second? r) (pairOf (p .first) st) (pairOf st (p .second))
 
--- ---- a write
+-- ---- a write: what a request calls its task is here a global rank
 
-module _ (p : Pair) (q : PairRequest) where
+module _ (p : Pair) (q : Request) where
   -- the request to the file that has the rank
   abbrev pub fileRequest : Request
-  fileRequest = requestOf (taskOfRank p (q .rank)) (q .bytes)
+  fileRequest = requestOf (taskOfRank p (q .task)) (q .bytes)
 
   -- "then 14 comes if the rank is not below mapping_size"; what follows is the request's, of that file
   unfoldable pub pairWriteRefusal : ℕ
   pairWriteRefusal =
       firstFailing
-      (pairTests p ++ (test 14 (not (ltb (q .rank) (size p))) ∷ requestTests (stateOfRank p (q .rank)) fileRequest))
+      (pairTests p ++ (test 14 (not (ltb (q .task) (size p))) ∷ requestTests (stateOfRank p (q .task)) fileRequest))
 
   unfoldable pub pairAfterWrite : Pair
-  pairAfterWrite = cond (eqb pairWriteRefusal 0) (withState p (q .rank) (afterWrite (stateOfRank p (q .rank)) fileRequest)) p
+  pairAfterWrite = cond (eqb pairWriteRefusal 0) (withState p (q .task) (afterWrite (stateOfRank p (q .task)) fileRequest)) p
 
   -- within a budget of byte stores for each image
   unfoldable pub pairWriteFound : ℕ → ℕ → Pair
   pairWriteFound b b′ =
       cond (eqb pairWriteRefusal 0)
-      (withState p (q .rank) (writeFound (stateOfRank p (q .rank)) fileRequest (cond (second? p (q .rank)) b′ b))) p
+      (withState p (q .task) (writeFound (stateOfRank p (q .task)) fileRequest (cond (second? p (q .task)) b′ b))) p
 
 -- a list of writes, each to what the last one left: the pair in the end, and the answers in order
-abbrev pub pairWrites : Pair → List PairRequest → Pair
+abbrev pub pairWrites : Pair → List Request → Pair
 pairWrites p [] = p
 pairWrites p (q ∷ qs) = pairWrites (pairAfterWrite p q) qs
 
-abbrev pub pairRefusals : Pair → List PairRequest → List ℕ
+abbrev pub pairRefusals : Pair → List Request → List ℕ
 pairRefusals p [] = []
 pairRefusals p (q ∷ qs) = pairWriteRefusal p q ∷ pairRefusals (pairAfterWrite p q) qs
 

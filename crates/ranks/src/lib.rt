@@ -3,9 +3,10 @@ ghost use mathlib.Core.Path.{_≡_};
 ghost use Prim.Native.Nat.{_+_, _≤_};
 ghost use lib.ListN.{length};
 ghost use Rattle.format.specs.Limits.{maxTasks};
-ghost use Rattle.format.specs.Record.{entry};
+ghost use Rattle.format.specs.Record.{entry, allLists, rankOf};
 ghost use Rattle.pairs.specs.Ranks.{carrier, noneLacking};
 ghost use Rattle.ranks.specs.Holders.{Held, holder, holders};
+use format::head;
 use pairs::PAIR_TASKS;
 
 // Each of n tasks to its rank, where the rank is below `size` and has no task yet; `before` tasks come before them in the row.
@@ -83,4 +84,18 @@ pub fn holder_of(first: &[u64], n: usize, second: &[u64], m: usize, rank: u64) -
         return n as u64 + j as u64 + 1;
     }
     0
+}
+
+// The same by the lists of two records.
+pub fn task_of(lists0: &[u64], n: u32, lists1: &[u64], m: u32, rank: u64) -> u64
+    requires { ⌜ (length (now lists0) ≡ allLists) × (length (now lists1) ≡ allLists) × (n ≤ maxTasks) × (m ≤ maxTasks) ⌝ }
+    ensures { λ r. ⌜ r ≡ holder n m (rankOf (now (lists0 .entry))) (rankOf (now (lists1 .entry))) rank ⌝ }
+{
+    holder_of(
+        &lists0[..head::SIZES],
+        n as usize,
+        &lists1[..head::SIZES],
+        m as usize,
+        rank,
+    )
 }

@@ -18,7 +18,7 @@ use format::refusal;
 use stores::memory;
 
 // The bytes of a task that the tests allow, over all its chunks.
-fn total_of(l: Loaded, lists: &[u64], image: &[u8], table: &[i64], task: u64) -> u64
+pub fn total_of(l: Loaded, lists: &[u64], image: &[u8], table: &[i64], task: u64) -> u64
     requires { ⌜ Readable (containerOf (fileIn (l .head)) l (now lists) (now image) (now table)) task ⌝ }
     ensures { λ r. ⌜ r ≡ totalOf (containerOf (fileIn (l .head)) l (now (lists .entry)) (now (image .entry)) (now (table .entry))) task ⌝ }
 {
@@ -76,7 +76,7 @@ fn left_to_skip(skip: u64, length: u64) -> u64
 }
 
 // The stream of a task that the tests allow, from p on, into out, chunk by chunk until out is full: the bytes copied.
-fn copy_stream(
+pub fn copy_stream(
     l: Loaded,
     lists: &[u64],
     image: &[u8],

@@ -1,8 +1,8 @@
 -- What a write leaves of a session that follows a book of the tally, where it changes nothing and where it is stored: a session that follows what
 -- the tally says then, and every cell but one as it was.
 use mathlib.Core.Path.{_≡_, refl, sym, ap, _∙_, subst, fun-ext}
-use mathlib.Core.Bool.{Bool, true, false}
-use mathlib.Core.List.{[], _∷_}
+use mathlib.Core.Bool.{Bool, true, false, cond}
+use mathlib.Core.List.{List, [], _∷_}
 use mathlib.Core.Logic.{⊎-elim}
 use Prim.Native.Nat.{ℕ, _+_, _*_, _-_, _/_, _%_, _≤_, _<_}
 use native.Mathlib.Omega.{arith}
@@ -19,7 +19,7 @@ use Rattle.format.proofs.Rules.{valueIndex-lt}
 use Rattle.format.proofs.Passing.{head-tasks, head-block, sound-agree}
 use Rattle.format.proofs.Stripes.{length-counts, ranks-kept, sizes-kept, counts-set}
 use Rattle.format.specs.Session.{State, withCount}
-use Rattle.format.specs.Write.{Request, capacityOf, spot, writeRefusal, stored, afterWrite}
+use Rattle.format.specs.Write.{Request, capacityOf, spot, writeRefusal, takesBytes, stored, afterWrite, writes}
 use Rattle.format.proofs.Outcomes.{accepted-stores}
 use Rattle.format.specs.Tally.{Tally, Tallies, countBy, outcomeIn, answerTo, feed, fedOf}
 use Rattle.tally.proofs.Cases.{feed-other}
@@ -27,6 +27,22 @@ use Rattle.tally.proofs.Counts.{count-begun}
 use Rattle.tally.proofs.Places.{reachable-feed, storedIn, length-after}
 use Rattle.tally.specs.Simulates.{CellIs, Simulates, termsAt, Own}
 use Rattle.tally.proofs.Simulating.{layout-of, StepSimulates, CellsKept}
+
+-- ---- the ranks, which no write changes
+
+ranks-after : (st : State) (q : Request) → ranksOf (afterWrite st q .lists) ≡ ranksOf (st .lists)
+unfolding afterWrite stored
+ranks-after st q = go (takesBytes st q)
+  where
+    go : (b : Bool) → ranksOf (cond b (stored st q) st .lists) ≡ ranksOf (st .lists)
+    go true = ranks-kept (st .lists) (q .task - 1) (spot st q .chunk)
+    go false = refl
+
+pub ranks-written : (qs : List Request) (st : State) → ranksOf (writes st qs .lists) ≡ ranksOf (st .lists)
+ranks-written [] st = refl
+ranks-written (q ∷ qs) st = ranks-written qs (afterWrite st q) ∙ ranks-after st q
+
+-- ---- one write
 
 -- what is shown of a write
 abbrev pub StepHolds : Tallies → State → Request → Type 0

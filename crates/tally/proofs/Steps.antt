@@ -17,16 +17,17 @@ use Rattle.format.specs.Record.{sizeOf, cellsAgree, isTask}
 use Rattle.format.proofs.Rules.{values-hold}
 use Rattle.format.specs.declared.session.Session.{Session}
 use Rattle.format.specs.Session.{State, sessionTests}
-use Rattle.format.specs.Write.{Request, Spot, begun, inLast, capacityOf, spot, target, writeRefusal, stored}
+use Rattle.format.specs.Write.{Request, Spot, begun, inLast, capacityOf, spot, target, writeRefusal, stored, writes}
+use Rattle.format.proofs.Passing.{head-block}
 use Rattle.format.proofs.Sessions.{session-passes}
 use Rattle.format.proofs.Answers.{answer-no-task, answer-empty, answer-long, answer-chunk}
 use Rattle.format.proofs.Outcomes.{refused-keeps, empty-keeps}
 use Rattle.format.specs.Tally.{Tallies, countBy, outcomeIn, answerTo, afterwards, feed, fedOf, Outcome, refused, empty, stays, moves}
 use Rattle.tally.proofs.Cases.{View, is-refused, is-empty, is-stays, is-moves, no-task, too-long, no-room, view, feed-same}
 use Rattle.tally.proofs.Counts.{count-begun, count-over, count-least, count-next, count-most}
-use Rattle.tally.proofs.Places.{imageAfter}
+use Rattle.tally.proofs.Places.{imageAfter, length-after}
 use Rattle.tally.specs.Simulates.{termsIn, CellIs, Simulates, termsAt, Own}
-use Rattle.tally.proofs.Simulating.{used-fits, StepSimulates, RunSimulates, CellsKept}
+use Rattle.tally.proofs.Simulating.{layout-of, used-fits, StepSimulates, RunSimulates, CellsKept}
 use Rattle.tally.proofs.Effects.{StepHolds, step-unchanged, store}
 
 module _ {b : Tallies} {st : State} (f : Own b st) where
@@ -236,3 +237,9 @@ module _ {s : Session} {size : ℕ → ℕ} where
         other-cells = λ j l. r .other-cells j l ∙ t .other-cells j l;
         other-entries = λ j l. r .other-entries j l ∙ t .other-entries j l;
       }
+
+  -- the image keeps its length
+  pub image-as-long : {b : Tallies} {st : State} → Simulates s size b st → (qs : List Request) → length (writes st qs .image) ≡ length (st .image)
+  image-as-long {b} {st} f qs =
+      ap length (run-simulates f qs .image-is)
+      ∙ length-after _ _ _ (layout-of s size (head-block _ _ (f .sound))) qs b (st .image) (f .image-long) (f .reachable)

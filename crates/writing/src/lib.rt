@@ -141,7 +141,7 @@ fn put(
 
 // The request of a write to a session that passed its tests: 14, an empty one accepted, 15, 16, and then the stores, of the bytes, of the
 // task's cell and of its count.
-fn request(
+pub fn request(
     s: Session,
     lists: &mut [u64],
     image: &mut [u8],

@@ -16,7 +16,7 @@ pub fn time(calls: usize, mut call: impl FnMut(usize)) -> f64 {
 
 pub fn heading() {
     println!("Time of one call, the median of {ROUNDS} rounds; then the ratio of ours to theirs, its median and its spread.\n");
-    println!("{:28} {:>10} {:>10}  {:20} {:>9}  ratio", "", "ours", "reference", "ratio", "memcpy");
+    println!("{:31} {:>10} {:>10}  {:20} {:>9}  ratio", "", "ours", "reference", "ratio", "memcpy");
 }
 
 /// A number of bytes as a person writes it.
@@ -51,7 +51,7 @@ pub fn compare(
     let rounds: Vec<[f64; 3]> = (0..ROUNDS).map(|_| [ours(), reference(), copy()]).collect();
     let side = |k: usize| rounds.iter().map(move |round| round[k]).collect::<Vec<_>>();
     let against = |k: usize| spread(rounds.iter().map(|round| round[0] / round[k]).collect());
-    print!("{what:28} {:>10} {:>10}  {:20}", nanos(side(0)), nanos(side(1)), against(1));
+    print!("{what:31} {:>10} {:>10}  {:20}", nanos(side(0)), nanos(side(1)), against(1));
     if copies {
         print!(" {:>9}  {}", nanos(side(2)), against(2));
     }
