@@ -4,7 +4,7 @@ use mathlib.Core.Bool.{true, false, not}
 use mathlib.Core.List.{List, [], _∷_, _++_}
 use Prim.Native.Nat.{ℕ, suc, _+_, _*_, _^_, _<_, _≤_}
 use native.Mathlib.Omega.{arith}
-use borrow.Author.Tests.{lt-ltb, le-ltb, ltb-false, eq-eqb, ne-eqb, not-false}
+use borrow.Author.Tests.{lt-ltb, le-ltb, eq-eqb, ne-eqb, not-false}
 use lib.Dec.{ltb, eqb}
 use lib.IntN.{pos}
 use lib.ListN.{length}
@@ -13,8 +13,8 @@ use Rattle.lists.specs.Below.{allBelow, firstNot}
 use Rattle.endian.specs.Signed.{signed, within, natural}
 use Rattle.lists.proofs.Below.{and-left, first-cong, first-past}
 use Rattle.endian.proofs.Signed.{within-signed, natural-signed}
-use Rattle.format.specs.Limits.{maxTasks, maxRank, maxSize, maxBlocks, blocksizeRule, maxchunksRule, allDifferent, rankRule, ranksRule, sizesRule}
-use Rattle.format.specs.Layout.{meta1End, meta2End}
+use Rattle.format.specs.Limits.{maxRank, maxSize, maxBlocks, maxchunksRule, allDifferent, rankRule, ranksRule, sizesRule}
+use Rattle.format.specs.Layout.{meta2End}
 use Rattle.format.proofs.Chunks.{meta2End-small}
 use Rattle.format.specs.declared.head.Head.{Head}
 use Rattle.meta1.specs.declared.Last.{Last}
@@ -24,15 +24,14 @@ use Rattle.format.specs.Kinds
 use Rattle.format.specs.Refusals.{Test, testAt, faultOf, firstFailing, verdict, passed}
 use Rattle.format.specs.Meta1.{fixedLength, rankAt, sizeAt, lastAt, startAt, rankField, sizeField}
 use Rattle.format.specs.Record.{entry, allLists, sizesOf, rankOf, sizeOf, filled, listsOf, isBig, meta2At, endAt}
-use Rattle.format.specs.Judge.{maxStart, numberFault, endFault, bigIn, tasksIn, maxchunksIn, headIn, rankIn, sizeIn, meta2In, startTests, fieldTests, fixedTests, rankTests, requestedTests, lastTests, restTests}
+use Rattle.format.specs.Judge.{maxStart, numberFault, endFault, bigIn, tasksIn, maxchunksIn, headIn, rankIn, sizeIn, meta2In, rankTests, requestedTests, lastTests, restTests}
 use Rattle.front.specs.Judging.{HeadRead}
 use Rattle.meta1.specs.Judging.{restBy, restGives, listsRead, ListsPassed}
-use Rattle.format.proofs.Refusals.{both-pass, none-fails, when-accepted, when-refused, either-is}
+use Rattle.format.proofs.Refusals.{when-accepted, when-refused, either-is}
 use Rattle.format.proofs.Verdicts.{fails-first, passes-first, passes-last, verdict-passes, verdict-fails, fields-first, fields-pass}
-use Rattle.format.proofs.Accepting.{start-numbered, field-numbered, rank-numbered, size-numbered, ranks-hold, sizes-hold}
+use Rattle.format.proofs.Accepting.{rank-numbered, size-numbered, ranks-hold, sizes-hold}
 use Rattle.format.proofs.Stripes.{length-lists, length-sizes, rank-made, size-made}
 use Rattle.format.proofs.Record.{isBig-order, meta2At-agree, endAt-agree}
-use Rattle.format.proofs.Rules.{blocksize-natural, tasks-natural}
 use Rattle.format.proofs.Fields.{is-number, maxchunks-number, maxchunks-facts, verdict-agree}
 use Rattle.format.proofs.Filled.{filled-cong}
 use Rattle.format.proofs.Unsigned.{all-unsigned, natural-unsigned, rank-unsigned}

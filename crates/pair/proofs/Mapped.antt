@@ -1,16 +1,14 @@
 -- A mapping's tests pass exactly where the mapping is there, each of its entries with an existing task that carries its rank.
-use mathlib.Core.Path.{_≡_, refl, sym, ap, _∙_}
-use mathlib.Core.Bool.{Bool, true, false, cond, not}
+use mathlib.Core.Path.{_≡_, ap, _∙_}
+use mathlib.Core.Bool.{Bool, true, false, cond}
 use mathlib.Core.List.{List}
 use Prim.Native.Nat.{ℕ, zero, suc, _+_, _-_, _*_, _≤_, _<_}
 use native.Mathlib.Omega.{arith}
-use lib.Dec.{eqb}
 use lib.IntN.{ℤ, pos}
 use lib.ListN.{length}
 use borrow.Author.Tests.{ltb-false, le-ltb, eqb-true, eq-eqb, not-false}
-use Rattle.lists.specs.Below.{joinBelow}
 use Rattle.endian.specs.Signed.{signedAt, within, natural}
-use Rattle.endian.proofs.Signed.{InRange, within-natural, within-holds}
+use Rattle.endian.proofs.Signed.{within-natural, within-holds}
 use Rattle.format.specs.Refusals.{Test, firstFailing}
 use Rattle.format.specs.Judge.{is}
 use Rattle.format.specs.Container.{Contents}

@@ -13,7 +13,7 @@ use Rattle.format.specs.declared.head.File.the-variants.{First, Second}
 use Rattle.format.specs.Layout.{meta2End}
 use Rattle.format.specs.Container.{Contents, IsContainer, Says}
 use Rattle.pairs.specs.Load.{pairLoaded, pairLoadTables}
-use Rattle.pairs.specs.Reads.{LoadedPair, pairFrom, pairChunkRefusal, pairChunk, pairPart, pairTotal, pairReadAnswer, pairReadOutput}
+use Rattle.pairs.specs.Reads.{LoadedPair, pairChunkRefusal, pairChunk, pairPart, pairTotal, pairReadAnswer, pairReadOutput}
 use Rattle.container.specs.Format.{bytesSaid, streamSaid, totalSaid}
 
 -- where META2 of file 0 ends, and the mapping starts

@@ -1,7 +1,7 @@
 -- Demand 1 of a pair (W-204): every entry answers 0 or one of its own numbers, a refused call changes nothing of either file, and 17, 18 and 19 are given
 -- exactly where a record breaks a fact, is lent too little, or has a cell that breaks its rule.
 use mathlib.Core.Path.{_≡_}
-use mathlib.Core.Bool.{Bool, cond}
+use mathlib.Core.Bool.{cond}
 use mathlib.Core.List.{List, [], _∷_, _++_}
 use mathlib.Core.Logic.{_⊎_}
 use Prim.Native.Nat.{ℕ, _+_, _*_, _≤_, _<_}
@@ -9,11 +9,10 @@ use lib.Dec.{eqb}
 use lib.IntN.{ℤ}
 use lib.ListN.{length, take, drop, replicate}
 use Rattle.lists.specs.Logic.{Exactly, Not}
-use Rattle.format.specs.declared.head.Head.{Head}
 use Rattle.format.specs.declared.session.Session.{Session}
 use Rattle.format.specs.declared.loaded.Loaded.{Loaded}
 use Rattle.format.specs.Record.{rankOf, sizeOf, noLists}
-use Rattle.format.specs.Session.{State, stateOf, noSession}
+use Rattle.format.specs.Session.{stateOf, noSession}
 use Rattle.format.specs.Loaded.{noLoaded}
 use Rattle.format.specs.Open.{Opening}
 use Rattle.format.specs.Write.{Request}

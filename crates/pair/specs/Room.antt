@@ -12,7 +12,6 @@ use Rattle.format.specs.Open.{tasks}
 use Rattle.format.specs.Write.{Request, requestOf, writes}
 use Rattle.format.specs.Tally.{fed, answers, held, own, ownAnswers}
 use Rattle.pairs.specs.Sessions.{Pair, pairOf, size, pairTests, second?}
-use Rattle.container.specs.Start.{Start}
 use Rattle.container.specs.Room.{Claim}
 use Rattle.pair.specs.Start.{PairStart, pair, startOfRank, task, pairTerms, pairBook, pairBytes, pairAfter, pairAnswers, PairPuts}
 

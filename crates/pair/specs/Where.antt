@@ -1,7 +1,7 @@
 -- W-205 of a pair (W-204): where a load of two files broke. File 0's fields are judged first, then file 1's, each as a single file's, then the mapping's;
 -- a refused load names the first that breaks its rule, and the file that it stands in. Ranks are counted from 0, as the mapping's entries are.
 use mathlib.Core.Path.{_≡_}
-use mathlib.Core.Bool.{Bool, cond}
+use mathlib.Core.Bool.{cond}
 use mathlib.Core.List.{List, [], _∷_, _++_}
 use mathlib.Core.Logic.{_⊎_}
 use Prim.Native.Nat.{ℕ, suc, _+_, _*_, _≤_, _<_}

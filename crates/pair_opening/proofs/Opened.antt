@@ -1,15 +1,14 @@
 -- A pair's opening by what it needs: its tests, that each file's own tests pass where they do, and what an accepted and a refused one leave.
-use mathlib.Core.Path.{_≡_, refl, sym, ap, ap₂, _∙_}
-use mathlib.Core.Bool.{Bool, true, false, cond, not, _||_}
-use mathlib.Core.List.{List, [], _∷_, _++_}
+use mathlib.Core.Path.{_≡_, refl, sym, _∙_}
+use mathlib.Core.Bool.{Bool, true, false, cond, _||_}
+use mathlib.Core.List.{List, [], _∷_}
 use Prim.Native.Nat.{ℕ, _+_, _*_, _≤_, _<_}
 use native.Mathlib.Omega.{arith}
 use lib.Dec.{ltb, eqb}
 use lib.IntN.{ℤ}
 use lib.ListN.{length}
-use borrow.Author.Tests.{le-ltb, ltb-false, eqb-true, eqb-false, ne-eqb}
-use Rattle.lists.proofs.Below.{or-left, or-right, or-both}
-use Rattle.format.specs.Layout.{meta2End}
+use borrow.Author.Tests.{le-ltb, ltb-false, eqb-true, eqb-false}
+use Rattle.lists.proofs.Below.{or-left, or-right}
 use Rattle.format.specs.Refusals.{Test, test, firstFailing}
 use Rattle.format.specs.Record.{entry, noLists, tooShort}
 use Rattle.format.specs.Session.{noSession}
@@ -18,7 +17,6 @@ use Rattle.format.proofs.Verdicts.{each-append}
 use Rattle.format.proofs.Refusals.{Numbered, first-passes, first-fails, both-pass, next-passes, when-accepted, when-refused}
 use Rattle.lists.specs.Stores.{byteStores}
 use Rattle.format.proofs.Storing.{open-whole}
-use Rattle.pairs.specs.declared.PairNeeded.{PairNeeded}
 use Rattle.pairs.specs.Open.{needed, mappingRoom, pairPlanTests, pairNeeds, pairOpenRefusal, pairOpens, pairOpened, pairFound, pairImages, pairTables}
 use Rattle.pairs.proofs.Opening.{plan-numbered}
 use Rattle.pair_opening.specs.Short.{shortOf}

@@ -1,25 +1,20 @@
 -- What the tests of a pair's opening answer, part by part, and that a single file's tests pass where they pass.
 use mathlib.Core.Path.{_≡_, refl, sym, ap, ap₂, _∙_}
-use mathlib.Core.Bool.{Bool, true, false, cond, not, _||_}
+use mathlib.Core.Bool.{Bool, true, false, cond, not}
 use mathlib.Core.List.{List, [], _∷_, _++_}
-use Prim.Native.Nat.{ℕ, _+_, _*_, _≤_, _<_}
+use Prim.Native.Nat.{ℕ, _+_, _<_}
 use native.Mathlib.Omega.{arith}
-use lib.Dec.{ltb, eqb}
-use lib.IntN.{ℤ}
-use lib.ListN.{length}
 use Rattle.format.specs.declared.head.File.{File}
 use Rattle.format.specs.declared.head.File.the-variants.{Single}
 use Rattle.format.specs.declared.session.Plan.{Plan}
 use Rattle.format.specs.declared.session.Needed.{Needed}
-use Rattle.format.specs.Refusals.{Test, test, firstFailing}
+use Rattle.format.specs.Refusals.{test, firstFailing}
 use Rattle.format.specs.Record.{entry}
 use Rattle.format.specs.Open.{Opening, openingOf, tasks, shapeTests, numberTests, planTests, needsAnswer}
 use Rattle.format.proofs.Refusals.{Numbered, first-passes, first-fails, when-accepted, when-refused}
 use Rattle.format.proofs.Opening.{needs-number, needs-lengths}
-use Rattle.pairs.specs.declared.PairNeeded.{PairNeeded}
 use Rattle.pairs.specs.Ranks.{eachOnce}
-use Rattle.pairs.specs.Mapping.{mappingLength}
-use Rattle.pairs.specs.Open.{needed, mappingRoom, pairPlanTests, pairNeeds}
+use Rattle.pairs.specs.Open.{mappingRoom, pairPlanTests, pairNeeds}
 
 -- what an opening needs is the same of every file
 pub needs-file : (f : File) (plan : Plan) (ranks sizes prefix : List ℕ)

@@ -1,6 +1,6 @@
 -- Loading a pair (W-204): its tests, and what an accepted and a refused load hand back. `image` and `table` are file 0's, `image′` and `table′` file
 -- 1's.
-use mathlib.Core.Bool.{Bool, cond, not, _&&_}
+use mathlib.Core.Bool.{cond, not, _&&_}
 use mathlib.Core.List.{List, _++_}
 use Prim.Native.Nat.{ℕ}
 use lib.Dec.{eqb}

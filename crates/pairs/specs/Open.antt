@@ -9,7 +9,7 @@ use lib.ListN.{length}
 use Rattle.format.specs.Layout.{imageNeeded}
 use Rattle.format.specs.Refusals.{Test, test, firstFailing}
 use Rattle.format.specs.Record.{entry, noLists, tooShort}
-use Rattle.format.specs.Session.{State, stateOf, noSession}
+use Rattle.format.specs.Session.{noSession}
 use Rattle.format.specs.Open.{Opening, tasks, planTests, openSession, openLists, openImage, openFound, openTable}
 use Rattle.pairs.specs.declared.PairNeeded.{PairNeeded}
 use Rattle.pairs.specs.declared.PairOpened.{PairOpened}

@@ -8,13 +8,13 @@ use native.Mathlib.Omega.{arith}
 use lib.Dec.{ltb, eqb}
 use lib.ListN.{length, getD, set, replicate, length-set, length-replicate, getD-replicate}
 use lib.Seq.{getD-set-same, getD-set-other, ext-getD}
-use borrow.Author.Tests.{lt-ltb, le-ltb, ltb-true, ltb-false, eqb-true, eqb-false, eq-eqb, ne-eqb}
+use borrow.Author.Tests.{lt-ltb, le-ltb, ltb-true, ltb-false, eqb-true, eqb-false, ne-eqb}
 use Rattle.lists.specs.Below.{allBelow}
 use Rattle.lists.proofs.Below.{length-list, getD-list, all-cong}
 use Rattle.format.specs.Limits.{maxTasks}
 use Rattle.format.specs.Record.{entry}
-use Rattle.pairs.specs.Ranks.{carrier, comes, noneLacking, mappingSize, times}
-use Rattle.pairs.proofs.Ranks.{carrier-le, carrier-more, times-carrier}
+use Rattle.pairs.specs.Ranks.{carrier, comes, noneLacking, times}
+use Rattle.pairs.proofs.Ranks.{carrier-more, times-carrier}
 use Rattle.ranks.specs.Holders.{heldBy, Held, holder, holders}
 
 none-held : (before : ℕ) (rank : ℕ → ℕ) (earlier r : ℕ) → heldBy before 0 rank earlier r ≡ earlier

@@ -1,10 +1,7 @@
 -- nfiles, and then filenumber.
-use mathlib.Core.Path.{_≡_, refl, sym, ap, _∙_}
-use mathlib.Core.Bool.{Bool, false, _&&_}
+use mathlib.Core.Path.{sym}
 use borrow.Author.Needs.{needs}
 use borrow.Author.Tests.{eq-eqb, ne-eqb}
-use lib.Dec.{eqb}
-use Rattle.format.specs.Record.{filesOf, fileOf}
 use Rattle.files.proofs.suits.Statement.{statement}
 use Rattle.files.proofs.suits.Tie as tie
 

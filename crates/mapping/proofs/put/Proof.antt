@@ -1,18 +1,18 @@
 -- The mapping made, and copied in as one run.
-use mathlib.Core.Path.{_≡_, refl, sym, ap, _∙_}
-use Prim.Native.Nat.{ℕ, _+_, _-_, _*_}
+use mathlib.Core.Path.{refl, sym, ap, _∙_}
+use Prim.Native.Nat.{ℕ, _+_, _-_}
 use mathlib.Core.List.{List}
 use native.Mathlib.Omega.{arith}
 use borrow.Author.Needs.{needs}
 use lib.Dec.{ltb}
-use lib.ListN.{length, take, drop, replicate, length-take, length-drop}
+use lib.ListN.{length, replicate, length-take, length-drop}
 use lib.Seq.{length-take-le}
 use Rattle.lists.specs.Below.{joinBelow}
 use Rattle.lists.specs.Splice.{splice}
 use Rattle.lists.proofs.Stores.{spends-part, spends-same}
 use Rattle.format.specs.Record.{entry}
 use Rattle.pairs.specs.Mapping.{mappingLength}
-use Rattle.mapping.specs.Entries.{taskIn, entryBytes, AllHeld}
+use Rattle.mapping.specs.Entries.{taskIn, entryBytes}
 use Rattle.mapping.proofs.Entries.{all-held, entries-are, length-mapping, mapping-made}
 use Rattle.mapping.proofs.put.Statement.{statement}
 use Rattle.mapping.proofs.put.Tie as tie

@@ -1,18 +1,16 @@
 -- The loop's invariant: the entries of the ranks passed stand one after the other. The measure is the ranks left.
 use mathlib.Core.Path.{_≡_, refl, ap, _∙_}
-use mathlib.Core.Bool.{Bool, true, false}
+use mathlib.Core.Bool.{Bool}
 use mathlib.Core.List.{List}
-use Prim.Native.Nat.{ℕ, _+_, _-_, _*_, _≤_, _<_}
+use Prim.Native.Nat.{ℕ, _+_, _-_, _*_, _≤_}
 use native.Mathlib.Nat.{le-antisymm}
 use native.Mathlib.Omega.{arith}
 use borrow.Author.Needs.{needs}
-use borrow.Author.Tests.{lt-ltb, le-ltb, ltb-true, ltb-false}
 use lib.Dec.{ltb}
 use lib.ListN.{length}
 use Rattle.lists.specs.Below.{joinBelow}
 use Rattle.lists.specs.Splice.{splice}
 use Rattle.lists.proofs.Splice.{join-none, join-then}
-use Rattle.format.specs.Limits.{maxTasks}
 use Rattle.format.specs.Record.{entry}
 use Rattle.mapping.specs.Entries.{taskIn, entryBytes}
 use Rattle.mapping.proofs.Entries.{length-entry, task-small}

@@ -1,6 +1,6 @@
 -- The record, the stores and the cells of an opening whose tests passed.
 use mathlib.Core.Path.{_≡_, sym, ap, ap₂, _∙_}
-use Prim.Native.Nat.{ℕ, _<_}
+use Prim.Native.Nat.{ℕ}
 use native.Mathlib.Omega.{arith}
 use lib.IntN.{ℤ}
 use lib.ListN.{length}
@@ -11,13 +11,13 @@ use Rattle.lists.specs.Splice.{splice}
 use Rattle.format.specs.declared.head.Head.{Head}
 use Rattle.lists.specs.Stores.{found}
 use Rattle.format.specs.Meta1.{openingStores}
-use Rattle.format.proofs.Storing.{opened-found, refused-found}
-use Rattle.format.specs.Record.{entry, allLists, noLists, listsOf, rankOf, sizeOf, headOf}
+use Rattle.format.proofs.Storing.{opened-found}
+use Rattle.format.specs.Record.{entry, allLists, listsOf, rankOf, sizeOf, headOf}
 use Rattle.format.proofs.Stripes.{length-lists}
-use Rattle.format.specs.Session.{sessionOf, noSession}
+use Rattle.format.specs.Session.{sessionOf}
 use Rattle.format.proofs.Formats.{least-one}
-use Rattle.format.specs.Open.{Opening, openingOf, blankCells, openRefusal, openHead, openSession, openLists}
-use Rattle.format.proofs.Opening.{OpeningHolds, opening-holds, opening-data, ranks-kept, sizes-kept, opened-answer, opened-table, refused-answer, refused-table}
+use Rattle.format.specs.Open.{Opening, openingOf, blankCells, openHead, openSession, openLists}
+use Rattle.format.proofs.Opening.{OpeningHolds, opening-holds, opening-data, ranks-kept, sizes-kept, opened-answer, opened-table}
 use Rattle.opening.proofs.begin.Statement.{statement}
 use Rattle.opening.proofs.begin.Tie as tie
 

@@ -1,9 +1,8 @@
 -- META2, then the mapping, then the last two fields.
-use mathlib.Core.Path.{_≡_, refl, sym, ap, ap₂, _∙_}
+use mathlib.Core.Path.{_≡_, refl, sym, ap, ap₂}
 use Prim.Native.Nat.{ℕ, _+_, _≤_, _<_, _^_}
 use native.Mathlib.Omega.{arith}
 use lib.ListN.{length}
-use lib.Seq.{length-take-le}
 use borrow.Author.Needs.{needs}
 use Rattle.lists.proofs.Stores.{spends-same, found-then, found-last}
 use Rattle.format.specs.Layout.{meta1End, meta2Start, meta2End}
@@ -12,7 +11,6 @@ use Rattle.format.proofs.Chunks.{meta1-before-data, meta2End-small}
 use Rattle.format.specs.Meta1.{lastFields}
 use Rattle.format.specs.Record.{sizeOf, isBig, meta2At, endAt}
 use Rattle.format.proofs.Stripes.{length-ranks, length-counts}
-use Rattle.pairs.specs.Mapping.{mappingLength}
 use Rattle.pair_closing.proofs.finish_first.Statement.{statement}
 use Rattle.pair_closing.proofs.finish_first.Tie as tie
 

@@ -1,14 +1,11 @@
 -- File 0's plan, then file 1's, then the ranks of both.
 use mathlib.Core.Path.{_≡_, sym, ap, _∙_}
-use mathlib.Core.Bool.{true, false}
-use Prim.Native.Nat.{ℕ, _+_, _≤_, _<_, _^_}
+use Prim.Native.Nat.{ℕ, _+_}
 use native.Mathlib.Omega.{arith}
-use lib.ListN.{length}
 use borrow.Author.Needs.{needs}
 use Rattle.lists.proofs.Below.{test-fails, test-holds}
 use Rattle.format.specs.declared.head.File.the-variants.{First, Second}
 use Rattle.format.specs.declared.session.Needed.{Needed}
-use Rattle.format.specs.Limits.{maxTasks}
 use Rattle.format.specs.Record.{entry}
 use Rattle.format.specs.Open.{Opening, openingOf, tasks, needsAnswer}
 use Rattle.format.proofs.Opening.{PlanHolds, plan-holds, plan-sound, needs-number, needs-lengths}

@@ -1,7 +1,4 @@
 -- Each return by the tests that led there.
-use mathlib.Core.Path.{sym}
-use mathlib.Core.Bool.{or-true}
-use borrow.Author.Needs.{needs}
 use borrow.Author.Tests.{lt-ltb, le-ltb, eq-eqb, ne-eqb}
 use Rattle.format.specs.Refusals.{firstFailing}
 use Rattle.pair_opening.specs.Short.{shortOf}

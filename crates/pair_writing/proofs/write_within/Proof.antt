@@ -1,18 +1,17 @@
 -- Refused by the pair's tests or for its rank, nothing changes; else it is the request's to the file that has the rank.
 use mathlib.Core.Path.{_≡_, sym, ap, _∙_}
-use mathlib.Core.Bool.{true, false}
-use Prim.Native.Nat.{ℕ, _+_, _-_, _≤_, _<_}
+use Prim.Native.Nat.{ℕ, _-_, _≤_, _<_}
 use native.Mathlib.Omega.{arith}
 use borrow.Author.Needs.{needs}
 use Rattle.format.specs.declared.head.File.the-variants.{First, Second}
 use Rattle.format.specs.Limits.{maxTasks}
 use Rattle.format.specs.Record.{fileIn}
 use Rattle.format.specs.Refusals.{firstFailing}
-use Rattle.format.specs.Session.{State, stateOf, sessionTests}
+use Rattle.format.specs.Session.{State, stateOf}
 use Rattle.format.specs.Write.{Request, requestOf}
 use Rattle.format.proofs.Passing.{head-tasks}
 use Rattle.format.proofs.Sessions.{session-file, session-passed}
-use Rattle.pairs.specs.Sessions.{Pair, pairOf, size, pairTests, pairWriteRefusal}
+use Rattle.pairs.specs.Sessions.{Pair, pairOf, size, pairTests}
 use Rattle.pairs.proofs.Records.{pair-passed}
 use Rattle.ranks.proofs.Finding.{found-first, found-second}
 use Rattle.pair_writing.proofs.Written.{tests-refuse, write-refused, rank-refused, in-first, in-second}

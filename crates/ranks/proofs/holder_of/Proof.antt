@@ -1,5 +1,5 @@
 -- File 0's task, or else file 1's, or else none.
-use mathlib.Core.Path.{_≡_, refl, sym, ap, _∙_}
+use mathlib.Core.Path.{_≡_, refl}
 use native.Mathlib.Omega.{arith}
 use Prim.Native.Nat.{ℕ, _+_}
 use borrow.Author.Needs.{needs}

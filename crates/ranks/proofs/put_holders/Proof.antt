@@ -1,12 +1,10 @@
 -- The loop's invariant: the tasks passed are at their ranks. The measure is the tasks left.
-use mathlib.Core.Path.{_≡_, refl, sym, ap, _∙_, subst}
-use mathlib.Core.List.{List}
+use mathlib.Core.Path.{subst}
 use mathlib.Core.Logic.{⊎-elim}
-use Prim.Native.Nat.{ℕ, _+_, _-_, _≤_}
+use Prim.Native.Nat.{ℕ, _-_, _≤_}
 use native.Mathlib.Nat.{le-antisymm}
 use native.Mathlib.Omega.{arith}
 use borrow.Author.Needs.{needs}
-use lib.ListN.{length}
 use Rattle.format.specs.Record.{entry}
 use Rattle.ranks.specs.Holders.{Held}
 use Rattle.ranks.proofs.Holding.{held-none, held-over, held-taken, held-put}

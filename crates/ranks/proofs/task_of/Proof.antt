@@ -1,7 +1,6 @@
 -- The ranks are the first stripe of each list.
 use mathlib.Core.Path.{sym}
 use native.Mathlib.Omega.{arith}
-use borrow.Author.Needs.{needs}
 use Rattle.format.proofs.Stripes.{length-ranks}
 use Rattle.ranks.proofs.task_of.Statement.{statement}
 use Rattle.ranks.proofs.task_of.Tie as tie

@@ -1,19 +1,12 @@
 -- Each return by the tests that led there.
-use mathlib.Core.Path.{_≡_, sym}
-use mathlib.Core.Bool.{true, false}
+use mathlib.Core.Path.{_≡_}
+use mathlib.Core.Bool.{true}
 use Prim.Native.Nat.{_≤_}
-use native.Mathlib.Omega.{arith}
-use native.Mathlib.Nat.{mul-le-mul}
-use lib.Dec.{ltb, eqb}
-use lib.ListN.{length}
-use borrow.Author.Needs.{needs}
-use borrow.Author.Tests.{lt-ltb, le-ltb, eq-eqb, ne-eqb, not-true, not-false}
-use Rattle.lists.proofs.Below.{test-fails, test-holds}
+use lib.Dec.{eqb}
+use borrow.Author.Tests.{eq-eqb, ne-eqb, not-true, not-false}
 use Rattle.format.specs.Limits.{maxBlocks, Sound}
-use Rattle.format.specs.Layout.{meta2End}
 use Rattle.format.specs.Refusals.{firstFailing}
-use Rattle.format.specs.Record.{sizesOf, sizeOf, holds, tooShort, cellsAgree, recordTests}
-use Rattle.format.proofs.Stripes.{length-counts}
+use Rattle.format.specs.Record.{sizesOf, recordTests}
 use Rattle.records.proofs.record_refusal.Statement.{statement}
 use Rattle.records.proofs.record_refusal.Tie as tie
 
