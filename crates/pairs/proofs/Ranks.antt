@@ -6,7 +6,7 @@ use native.Mathlib.Omega.{arith}
 use lib.Dec.{ltb, eqb}
 use borrow.Author.Tests.{ltb-true, ltb-false, lt-ltb, le-ltb, eqb-true, eqb-false, eq-eqb, ne-eqb, not-false}
 use Rattle.lists.specs.Below.{allBelow, firstNot, sumBelow}
-use Rattle.lists.proofs.Below.{all-at, all-of, first-none, first-fails, first-le, first-cong, sum-le}
+use Rattle.lists.proofs.Below.{all-at, all-of, first-none, first-fails, first-cong, sum-le}
 use Rattle.pairs.specs.Ranks.{times, carrier, comes, eachOnce, noneLacking, inSecond, localRank}
 
 -- ---- the task that carries a rank, in one file
@@ -14,10 +14,6 @@ use Rattle.pairs.specs.Ranks.{times, carrier, comes, eachOnce, noneLacki
 module _ (n : ℕ) (rank : ℕ → ℕ) (r : ℕ) where
   abbrev other : ℕ → Bool
   other i = not (eqb (rank i) r)
-
-  pub carrier-le : carrier n rank r ≤ n
-  unfolding carrier
-  carrier-le = first-le other n
 
   -- one that is below n carries it
   pub carrier-carries : carrier n rank r < n → rank (carrier n rank r) ≡ r
@@ -36,16 +32,6 @@ module _ (n : ℕ) (rank : ℕ → ℕ) (r : ℕ) where
       go : (b : Bool) → allBelow n other ≡ b → firstNot n other < n
       go true a = absurd (false≢true (sym (ap not (eq-eqb (rank i) r e)) ∙ all-at other n i l a))
       go false a = first-fails other n a .0
-
-  -- and it is the one, where no two are the same
-  pub carrier-is : ((i j : ℕ) → i < n → j < n → rank i ≡ rank j → i ≡ j) → (i : ℕ) → i < n → rank i ≡ r → carrier n rank r ≡ i
-  carrier-is differ i l e =
-      let below = carrier-some i l e in
-      differ (carrier n rank r) i below l (carrier-carries below ∙ sym e)
-
-  pub carrier-none : ((i : ℕ) → i < n → rank i ≡ r → ⊥) → carrier n rank r ≡ n
-  unfolding carrier
-  carrier-none none = first-none other n (all-of other n (λ i l. ap not (ne-eqb (rank i) r (none i l))))
 
 -- one task more
 pub carrier-more : (i : ℕ) (rank : ℕ → ℕ) (r : ℕ)
