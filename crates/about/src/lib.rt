@@ -1,4 +1,6 @@
 // What a chunk holds; and a loaded container as a whole: its length in the image, and its filename prefix.
+#![tactic(auto)]
+
 ghost use Rattle.std.specs.Prelude.{◌≡◌, ◌+◌, ◌≤◌, pos, length};
 ghost use Rattle.endian.specs.Signed.{within};
 ghost use Rattle.format.specs.declared.head.File.TheVariants.{Single};

@@ -1,4 +1,6 @@
 // One chunk of a loaded container: its number for a refusal, its bytes as a part of the image, and the place of that part.
+#![tactic(auto)]
+
 ghost use Rattle.std.specs.Prelude.{◌≡◌, ◌+◌, ◌-◌, ◌*◌, ◌<◌, ◌≤◌, length};
 ghost use Rattle.format.specs.Refusals.{first_failing};
 ghost use Rattle.format.specs.Record.{all_lists, file_in};

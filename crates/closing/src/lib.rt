@@ -1,4 +1,6 @@
 // Closing a session: META2, then META1's last two fields stored, the session marked closed, and the container's length.
+#![tactic(auto)]
+
 ghost use Rattle.std.specs.Prelude.{◌≡◌, ◌≤◌, length};
 ghost use Rattle.format.specs.Limits.{max_tasks};
 ghost use Rattle.format.specs.declared.head.Head.{Head};

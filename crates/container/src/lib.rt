@@ -1,4 +1,6 @@
 // One container of the SIONlib file format over memory that the caller lends: all entries, with what is promised of them together.
+#![tactic(auto)]
+
 pub use about::{chunk_size, prefix, whole_length};
 pub use chunks::{chunk, chunk_refusal, part};
 pub use closing::{close, close_within};

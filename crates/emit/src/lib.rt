@@ -1,5 +1,7 @@
 // The metadata blocks stored into an image: META1 at opening, its last two fields at closing, and META2, each within a budget of byte stores.
 // Each function but `meta1` stores one run of bytes and answers what is left of the budget; every store goes through those of `stores`.
+#![tactic(auto)]
+
 ghost use Rattle.std.specs.Prelude.{◌≡◌, true, ◌++◌, ◌+◌, ◌-◌, ◌*◌, ◌≤◌, pos, length, drop};
 ghost use Rattle.lists.specs.Splice.{splice};
 ghost use Rattle.lists.specs.Stores.{found, Spends};

@@ -1,5 +1,7 @@
 // What the tests of a load give, made where one fails (W-205): the refusal, and the field with its place, what it says and from where to where it
 // may be.
+#![tactic(auto)]
+
 ghost use Rattle.std.specs.Prelude.{◌≡◌, cond, ◌<◌, ◌^◌, pos};
 ghost use Rattle.endian.specs.Signed.{signed};
 ghost use Rattle.endian.specs.declared.read.Number4.{Number4};

@@ -1,4 +1,6 @@
 // Which physical file of how many a call means, as numbers (W-204): nfiles and filenumber, and whether a record is of that file.
+#![tactic(auto)]
+
 ghost use Rattle.std.specs.Prelude.{◌≡◌};
 ghost use Rattle.format.specs.declared.head.File.{File};
 ghost use Rattle.format.specs.declared.head.Head.{Head};

@@ -1,5 +1,7 @@
 // META1's fields that stand in every container at the same place, judged from an image's first bytes and the image's whole length: tests 1 to 7, and
 // both of 3.
+#![tactic(auto)]
+
 ghost use Rattle.std.specs.Prelude.{◌≡◌, false, ◌+◌, ◌<◌, ◌≤◌, ◌^◌, pos, length};
 ghost use Rattle.endian.specs.Signed.{signed_at};
 ghost use Rattle.format.specs.declared.head.Head.{Head};

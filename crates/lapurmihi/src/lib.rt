@@ -1,5 +1,7 @@
 // The container's entries for C and Rust, with their own promises. The header is include/lapurmihi.h. A record is its numbers by value and its
 // lists as one lent array; a function whose name ends in `_lent` takes it so. A pair's entries are the crate `lapurmihi_pair`, in the same library.
+#![tactic(auto)]
+
 ghost use Rattle.std.specs.Prelude.{◌≡◌, ◌+◌, ◌≤◌, length};
 ghost use Rattle.format.specs.declared.head.File.TheVariants.{Single};
 ghost use Rattle.format.specs.declared.session.Session.{Session};

@@ -1,5 +1,7 @@
 // The calls that store into an image, within a budget of byte stores, for C and Rust: what a power cut leaves, for a program's own tests. They are a
 // library of their own, so that in the other ones the compiler sees that a plain call has no budget. The header is include/lapurmihi_cuts.h.
+#![tactic(auto)]
+
 ghost use Rattle.std.specs.Prelude.{◌≡◌};
 ghost use Rattle.format.specs.declared.head.File.TheVariants.{Single, First, Second};
 ghost use Rattle.format.specs.declared.session.Session.{Session};

@@ -1,5 +1,7 @@
 // A pair's entries for C and Rust (W-204), with their own promises. The header is include/lapurmihi_pair.h. A parameter whose name ends in 0 or 1 is of
 // that file. They are a crate of their own, and in the library that `lapurmihi` makes.
+#![tactic(auto)]
+
 ghost use Rattle.std.specs.Prelude.{◌≡◌, cond, ◌+◌, ◌≤◌, eqb, length};
 ghost use Rattle.format.specs.declared.head.File.TheVariants.{First, Second};
 ghost use Rattle.format.specs.declared.session.Session.{Session};

@@ -1,5 +1,7 @@
 // Where the parts of a container lie, and what its chunks hold: the rounding by blocksize, and the offsets of META1's end, each chunk and META2.
 // Every function asks for numbers within document 01's limits, under which no sum here can overflow.
+#![tactic(auto)]
+
 ghost use Rattle.std.specs.Prelude.{◌≡◌, true, ◌+◌, ◌*◌, ◌≤◌, pos, length, get_or};
 ghost use Rattle.lists.specs.Below.{list_below};
 ghost use Rattle.lists.specs.Splice.{splice};

@@ -1,4 +1,6 @@
 // The one line of document 01 about an input, as text in lent memory. The line's end is left to who prints it.
+#![tactic(auto)]
+
 ghost use Rattle.std.specs.Prelude.{◌≡◌, ◌∷◌, ◌+◌, ◌*◌, ◌≤◌, ◌<◌, length};
 ghost use Rattle.lists.specs.Splice.{splice};
 ghost use Rattle.io.specs.Counts.{IsPrefixLen};

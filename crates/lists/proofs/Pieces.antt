@@ -30,7 +30,7 @@ module _ {ℓ} {A : Type ℓ} where
   drop_pieces none (suc k) = refl
   drop_pieces (more {p} {ps = ps} {ws = ws} e r) (suc k) =
       ap (λ (w : ℕ). drop (w + total (take k ws)) (p ++ flatten ps)) (sym e)
-      ∙ drop-append-add p (flatten ps) (total (take k ws)) ∙ drop_pieces r k
+      ∙ drop-append-add p (flatten ps) (total (take k ws)) ∙ drop_pieces {ps = ps} {ws = ws} r k
 
   -- pieces after pieces
   pub append_pieces : (ps qs : List (List A)) → flatten ps ++ flatten qs ≡ flatten (ps ++ qs)

@@ -1,1 +1,2 @@
 // No code: bounded quantifiers, sums and splices of lists, which know nothing of containers.
+#![tactic(auto)]

@@ -1,4 +1,6 @@
 // Loading: a container checked whole, its record handed back and its values put into the table.
+#![tactic(auto)]
+
 ghost use Rattle.std.specs.Prelude.{◌≡◌};
 ghost use Rattle.lists.specs.Splice.{splice};
 ghost use Rattle.format.specs.declared.head.Head.{Head};

@@ -1,4 +1,6 @@
 // The mapping of a pair (W-204), which stands after META2 of file 0: stored within a budget of byte stores, and judged where it stands.
+#![tactic(auto)]
+
 ghost use Rattle.std.specs.Prelude.{◌≡◌, true, ◌+◌, ◌*◌, ◌≤◌, ◌<◌, ◌^◌, ltb, length, pos, suc};
 ghost use Rattle.lists.specs.Below.{join_below};
 ghost use Rattle.lists.specs.Splice.{splice};

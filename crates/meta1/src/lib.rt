@@ -1,4 +1,6 @@
 // META1, the first metadata block, judged where the fields that every container has at the same place passed: its lists and its last two fields.
+#![tactic(auto)]
+
 ghost use Rattle.std.specs.Prelude.{◌≡◌, suc, ◌+◌, ◌*◌, ◌<◌, ◌≤◌, ◌^◌, pos, length};
 ghost use Rattle.lists.specs.Below.{list_below};
 ghost use Rattle.endian.specs.Number.{number_at};

@@ -1,4 +1,6 @@
 // META2, the second metadata block: its counts and values judged from its own part of the image, and its values put into a table.
+#![tactic(auto)]
+
 ghost use Rattle.std.specs.Prelude.{◌≡◌, suc, ◌+◌, ◌*◌, ◌<◌, ◌≤◌, ◌^◌, pos, length, get_or};
 ghost use Rattle.lists.specs.Below.{list_below};
 ghost use Rattle.endian.specs.Number.{number_at};

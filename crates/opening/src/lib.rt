@@ -1,4 +1,6 @@
 // Opening a session: its tests, its record, and what it stores into the image and the table.
+#![tactic(auto)]
+
 ghost use Rattle.std.specs.Prelude.{◌≡◌, ◌+◌, ◌-◌, ◌*◌, ◌≤◌, pos, length, replicate};
 ghost use Rattle.lists.specs.Below.{list_below};
 ghost use Rattle.lists.specs.Splice.{splice};

@@ -1,4 +1,6 @@
 // Packing a loaded container into a second image (W-210): its tests, and then its stores, of which a budget makes just the first.
+#![tactic(auto)]
+
 ghost use Rattle.std.specs.Prelude.{◌≡◌, cond, [], ◌+◌, ◌*◌, ◌≤◌, eqb, length, take, drop};
 ghost use Rattle.lists.specs.Below.{join_below, list_below};
 ghost use Rattle.lists.specs.Stores.{Spends, found};

@@ -1,5 +1,7 @@
 // What a packed container's META1 and META2 say (W-210), and its length, from a loaded record: the totals of its tasks, and from them the sizes, the
 // counts and the cells.
+#![tactic(auto)]
+
 ghost use Rattle.std.specs.Prelude.{◌≡◌, true, cond, not, ◌≤◌, max, ltb, eqb, pos, length, get_or};
 ghost use Rattle.lists.specs.Below.{all_below, greatest_below, list_below};
 ghost use Rattle.lists.specs.Splice.{splice};

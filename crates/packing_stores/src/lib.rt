@@ -1,5 +1,7 @@
 // A loaded container stored anew, packed, into a second image: runs of its bytes, each within a budget of byte stores. Each function answers what is left of
 // the budget; every store goes through those of `stores`.
+#![tactic(auto)]
+
 ghost use Rattle.std.specs.Prelude.{◌≡◌, true, ◌++◌, ◌+◌, ◌-◌, ◌≤◌, pos, length, take, drop, replicate};
 ghost use Rattle.lists.specs.Below.{join_below, list_below};
 ghost use Rattle.lists.specs.Stores.{Spends};

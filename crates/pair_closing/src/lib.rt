@@ -1,5 +1,7 @@
 // Closing a pair (W-204): META2 and the mapping of file 0 with its last two fields, then file 1's. A parameter whose name ends in 0 or 1 is of that
 // file.
+#![tactic(auto)]
+
 ghost use Rattle.std.specs.Prelude.{◌≡◌, true, [], ◌∷◌, ◌+◌, ◌≤◌, length};
 ghost use Rattle.lists.specs.Stores.{store, found};
 ghost use Rattle.format.specs.declared.head.File.TheVariants.{First, Second};

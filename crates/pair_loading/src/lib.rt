@@ -1,4 +1,6 @@
 // Loading a pair (W-204): both files checked and then the mapping, before either table is filled. A parameter whose name ends in 0 or 1 is of that file.
+#![tactic(auto)]
+
 ghost use Rattle.std.specs.Prelude.{◌≡◌};
 ghost use Rattle.format.specs.declared.fault.Fault.{Fault};
 ghost use Rattle.format.specs.Record.{no_lists};

@@ -1,5 +1,7 @@
 // Opening a pair (W-204): its tests, both records, and what it stores into the two images and tables. A parameter whose name ends in 0 or 1 is of
 // that file; each file has its own whole list of arguments.
+#![tactic(auto)]
+
 ghost use Rattle.std.specs.Prelude.{◌≡◌};
 ghost use Rattle.format.specs.declared.head.File.TheVariants.{First, Second};
 ghost use Rattle.format.specs.declared.session.Plan.{Plan};

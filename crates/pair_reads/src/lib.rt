@@ -1,5 +1,7 @@
 // Reads of a loaded pair by global rank (W-204): one chunk as a part of whichever of the two images holds it, a task's total and the copying read. A
 // parameter whose name ends in 0 or 1 is of that file.
+#![tactic(auto)]
+
 ghost use Rattle.std.specs.Prelude.{◌≡◌, cond, ◌+◌, ◌≤◌, eqb, length};
 ghost use Rattle.format.specs.declared.head.File.TheVariants.{First, Second};
 ghost use Rattle.format.specs.declared.loaded.Loaded.{Loaded};

@@ -1,5 +1,7 @@
 // Tests 17, 18 and 19 of the two records of a pair (W-204): what is asked of both files at every call, whatever they hold. A parameter whose name ends in 0
 // or 1 is of that file.
+#![tactic(auto)]
+
 ghost use Rattle.std.specs.Prelude.{◌≡◌, length};
 ghost use Rattle.format.specs.declared.head.File.TheVariants.{First, Second};
 ghost use Rattle.format.specs.declared.session.Session.{Session};

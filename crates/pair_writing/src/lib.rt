@@ -1,5 +1,7 @@
 // A write to a pair by global rank (W-204): the tests of both sessions, then the request to the file that has the rank. A parameter whose name ends in 0
 // or 1 is of that file.
+#![tactic(auto)]
+
 ghost use Rattle.std.specs.Prelude.{◌≡◌};
 ghost use Rattle.format.specs.declared.head.File.TheVariants.{First, Second};
 ghost use Rattle.format.specs.declared.session.Session.{Session};

@@ -1,6 +1,8 @@
 // Document 02, W-204, as definitions, without a function: here the structs that a pair's entries answer with; in specs/ the rules, in proofs/ their
 // laws and numbers. A pair is two physical files, 0 and 1, each with its own record, image and table; a field whose name ends in 0 or 1 is of that
 // file.
+#![tactic(auto)]
+
 use format::fault::Fault;
 use format::head::LISTS;
 use format::limit::MAX_TASKS;

@@ -1,4 +1,6 @@
 // The ranks of both files of a pair (W-204): which task carries each, and whether one is lacking; each in time that grows with the tasks of both.
+#![tactic(auto)]
+
 ghost use Rattle.std.specs.Prelude.{◌≡◌, ◌+◌, ◌≤◌, length};
 ghost use Rattle.format.specs.Limits.{max_tasks};
 ghost use Rattle.format.specs.Record.{entry, all_lists, rank_of};

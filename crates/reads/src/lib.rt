@@ -1,4 +1,6 @@
 // The copying read of a task's stream, and its total, over the chunks that `chunks` hands back.
+#![tactic(auto)]
+
 ghost use Rattle.std.specs.Prelude.{◌≡◌, ◌+◌, ◌-◌, ◌<◌, ◌≤◌, min, length, take, drop};
 ghost use Rattle.lists.specs.Splice.{splice};
 ghost use Rattle.format.specs.declared.head.File.TheVariants.{Single};

@@ -1,4 +1,6 @@
 // Tests 17, 18 and 19: what is asked of a record, its image and its table at every call, whatever they hold.
+#![tactic(auto)]
+
 ghost use Rattle.std.specs.Prelude.{◌≡◌, true, ◌≤◌, length};
 ghost use Rattle.format.specs.Limits.{max_blocks, Sound};
 ghost use Rattle.format.specs.declared.head.Head.{Head};

@@ -1,5 +1,7 @@
 // Runs of bytes stored into a slice within a budget of byte stores: zeros, and lists of numbers of 8 bytes in either byte order. Each answers what is left
 // of the budget. A list's numbers are stored whole as long as there is room for them, without a look at the budget for each.
+#![tactic(auto)]
+
 ghost use Rattle.std.specs.Prelude.{◌+◌, ◌-◌, ◌*◌, ◌≤◌, pos, length, get_or, replicate};
 ghost use Rattle.lists.specs.Below.{join_below};
 ghost use Rattle.lists.specs.Stores.{Spends};

@@ -1,4 +1,6 @@
 // The program of document 01: reads an input from standard input and prints the one line about it.
+#![tactic(auto)]
+
 use line::LINE;
 use streams::input::INPUT;
 use streams::{input, output};

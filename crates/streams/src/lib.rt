@@ -1,4 +1,6 @@
 // An input read whole (`input`), and a text written whole (`output`).
+#![tactic(auto)]
+
 pub mod input;
 pub mod output;
 

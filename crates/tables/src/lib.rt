@@ -1,4 +1,6 @@
 // META2's rule: counts judged by it, and the cells of a table, many at a time and without a branch; the bytes that a cell says were written, and back.
+#![tactic(auto)]
+
 ghost use Rattle.std.specs.Prelude.{◌≡◌, ◌+◌, ◌*◌, ◌^◌, ◌<◌, ◌≤◌, min, ◌&&◌, ltb, length, get_or, pos, if◌then◌else◌, nat_le, nat_lt, slice_index, slice_index_or};
 ghost use Rattle.lists.specs.Below.{all_below, greatest_below};
 ghost use Rattle.endian.specs.Signed.{natural};

@@ -1,5 +1,7 @@
 // Runs stored containers: for each file that an argument names, prints its name, the line about it and, if it is accepted, the Adler-32
 // (RFC 1950) of all its chunks' parts and of all its tasks' streams, and what a load answers whose table has one cell too few.
+#![tactic(auto)]
+
 ghost use Rattle.io.specs.Counts.{IsPrefixLen};
 
 use format::head::LISTS;

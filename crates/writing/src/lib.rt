@@ -1,5 +1,7 @@
 // A write to a session: the session's tests, then where the request's bytes go, and the stores that put them there. Tasks and chunks are
 // counted from 1.
+#![tactic(auto)]
+
 ghost use Rattle.std.specs.Prelude.{◌≡◌, ◌+◌, ◌≤◌, ◌<◌, length, [], ◌∷◌};
 ghost use Rattle.lists.specs.Stores.{store, found};
 ghost use Rattle.format.specs.declared.head.Head.{Head};
