@@ -11,25 +11,25 @@ ghost use Rattle.endian.specs.declared.read.Integer8.{Integer8};
 use crate::sign;
 
 // What is read, unsigned and signed, of 4 and of 8 bytes: the number, and where it stands.
-#[derive(Drop)]
+#[derive(Clone, Copy)]
 pub struct Number4 {
     pub value: u32,
     pub at: usize,
 }
 
-#[derive(Drop)]
+#[derive(Clone, Copy)]
 pub struct Number8 {
     pub value: u64,
     pub at: usize,
 }
 
-#[derive(Drop)]
+#[derive(Clone, Copy)]
 pub struct Integer4 {
     pub value: i32,
     pub at: usize,
 }
 
-#[derive(Drop)]
+#[derive(Clone, Copy)]
 pub struct Integer8 {
     pub value: i64,
     pub at: usize,

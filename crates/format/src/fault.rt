@@ -45,7 +45,7 @@ pub const ENTRY_RANK: u32 = 19;
 // nothing, and so all three numbers are 0 there; an image's end and a table say their length, and both bounds are what is needed. Where nothing is
 // broken, all are 0.
 #[repr(C)]
-#[derive(Drop)]
+#[derive(Clone, Copy)]
 pub struct Fault {
     pub place: u64,
     pub says: i64,
@@ -57,7 +57,7 @@ pub struct Fault {
 }
 
 // What the tests of a load give: a refusal with what is broken, or 0 and no fault.
-#[derive(Drop)]
+#[derive(Clone, Copy)]
 pub struct Verdict {
     pub refusal: u32,
     pub fault: Fault,

@@ -10,7 +10,7 @@ pub const COUNTS: usize = 2 * MAX_TASKS;
 pub const LISTS: usize = 3 * MAX_TASKS;
 
 // Which physical file of how many a call means: the only one, or the first or the second of a pair (W-204).
-#[derive(Drop)]
+#[derive(Clone, Copy)]
 pub enum File {
     Single,
     First,
@@ -19,7 +19,7 @@ pub enum File {
 
 // `order` is 0 for little and 1 for big; `format` is fileformat_version; `files` is nfiles and `file` is filenumber.
 #[repr(C)]
-#[derive(Drop)]
+#[derive(Clone, Copy)]
 pub struct Head {
     pub order: u32,
     pub version: i32,

@@ -4,7 +4,7 @@ use crate::head::{Head, LISTS};
 
 // A loaded container: the greatest of its counts, and the closed mark, 0 where it is unset. Its lists are lent beside it.
 #[repr(C)]
-#[derive(Drop)]
+#[derive(Clone, Copy)]
 pub struct Loaded {
     pub head: Head,
     pub maxchunks: u32,
@@ -23,7 +23,7 @@ pub struct LoadAnswer {
 
 // Where the written bytes of one chunk, or the filename prefix, lie in the image.
 #[repr(C)]
-#[derive(Drop)]
+#[derive(Clone, Copy)]
 pub struct Part {
     pub refusal: u32,
     pub start: u64,
@@ -32,7 +32,7 @@ pub struct Part {
 
 // What a copying read answers, with the bytes copied, a task's total, and the container's length.
 #[repr(C)]
-#[derive(Drop)]
+#[derive(Clone, Copy)]
 pub struct ByteCount {
     pub refusal: u32,
     pub bytes: u64,

@@ -5,7 +5,7 @@ use crate::head::{Head, LISTS};
 // The numbers of a session: the planned blocks K, and the closed mark, 0 where it is unset. Its counts are the chunks begun by each task, in format 4
 // at least 1.
 #[repr(C)]
-#[derive(Drop)]
+#[derive(Clone, Copy)]
 pub struct Session {
     pub head: Head,
     pub planned: u32,
@@ -14,7 +14,7 @@ pub struct Session {
 
 // What an opening is given beside ranks, sizes and prefix; `order` is 0 for little and 1 for big, `format` is fileformat_version.
 #[repr(C)]
-#[derive(Drop)]
+#[derive(Clone, Copy)]
 pub struct Plan {
     pub order: u32,
     pub version: i32,
@@ -26,7 +26,7 @@ pub struct Plan {
 
 // What an opening needs: the bytes of its image and the cells of its table.
 #[repr(C)]
-#[derive(Drop)]
+#[derive(Clone, Copy)]
 pub struct Needed {
     pub refusal: u32,
     pub image: u64,
@@ -44,7 +44,7 @@ pub struct Opened {
 
 // What closing answers, with the container's length.
 #[repr(C)]
-#[derive(Drop)]
+#[derive(Clone, Copy)]
 pub struct Closed {
     pub refusal: u32,
     pub session: Session,

@@ -25,14 +25,14 @@ use format::{fault, field, limit, refusal};
 use rules::{heads, limits};
 
 // What the first tests give: their verdict, and where they pass whether the byte order is big.
-#[derive(Drop)]
+#[derive(Clone, Copy)]
 pub struct Start {
     pub verdict: Verdict,
     pub big: bool,
 }
 
 // What the fixed fields give: their verdict, and the head, zeros where they do not pass.
-#[derive(Drop)]
+#[derive(Clone, Copy)]
 pub struct Fixed {
     pub verdict: Verdict,
     pub head: Head,

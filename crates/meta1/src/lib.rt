@@ -29,7 +29,7 @@ use rules::limits;
 const MAX_START: u64 = 0x7fff_ffff_ffff_ffff;
 
 // What the rest of META1 gives beside the lists: its verdict, and maxchunks and META2's start, 0 where it does not pass.
-#[derive(Drop)]
+#[derive(Clone, Copy)]
 pub struct Last {
     pub verdict: Verdict,
     pub maxchunks: u32,

@@ -14,7 +14,7 @@ pub const PAIR_TASKS: usize = 2 * MAX_TASKS;
 
 // What an opening of a pair needs.
 #[repr(C)]
-#[derive(Drop)]
+#[derive(Clone, Copy)]
 pub struct PairNeeded {
     pub refusal: u32,
     pub image0: u64,
@@ -36,7 +36,7 @@ pub struct PairOpened {
 
 // What closing a pair answers, with the length of each file.
 #[repr(C)]
-#[derive(Drop)]
+#[derive(Clone, Copy)]
 pub struct PairClosed {
     pub refusal: u32,
     pub session0: Session,
@@ -60,7 +60,7 @@ pub struct PairLoaded {
 
 // Where the written bytes of one chunk lie, in which of the two images.
 #[repr(C)]
-#[derive(Drop)]
+#[derive(Clone, Copy)]
 pub struct PairPart {
     pub refusal: u32,
     pub file: u32,

@@ -11,7 +11,7 @@ pub const LONGEST: usize = 65_536;
 pub const INPUT: usize = LONGEST + 1;
 
 // What was read: how many bytes, or that a read failed.
-#[derive(Drop)]
+#[derive(Clone, Copy)]
 pub struct Input {
     pub failed: bool,
     pub count: usize,

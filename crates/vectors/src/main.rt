@@ -22,7 +22,7 @@ const MOST_BYTES: u64 = 65_536;
 
 const ADLER: u64 = 65_521;
 
-#[derive(Drop)]
+#[derive(Clone, Copy)]
 struct Sum {
     a: u64,
     b: u64,
@@ -79,7 +79,7 @@ fn counted(bytes: u64, buf: &[u8]) -> usize
 }
 
 // A piece of a task's stream from p on: the sum with it, and whether it was whole.
-#[derive(Drop)]
+#[derive(Clone, Copy)]
 struct Piece {
     sum: Sum,
     whole: bool,

@@ -21,7 +21,7 @@ use stores::memory;
 
 // What is decided of a write: the chunk that its bytes go to and the bytes that stand there before them, or a refusal; chunk 0 where
 // nothing is stored.
-#[derive(Drop)]
+#[derive(Clone, Copy)]
 pub struct Decision {
     pub refusal: u32,
     pub chunk: u64,

@@ -1,0 +1,38 @@
+-- The start of the data, the tasks before and the rounds before are each small.
+use Prim.Native.Nat.{◌-◌}
+use native.Mathlib.Omega.{arith}
+use borrow.Author.Rules.{rules}
+use Rattle.format.specs.Layout.{chunk_start}
+use Rattle.format.proofs.Bounds.{sound_fewer, data_start_small, extended_before_small, rounds_small}
+use Rattle.layout.proofs.chunk_start.Goals as goal
+
+pub extended_before-requires : goal.extended_before-requires
+extended_before-requires c = sound_fewer c.requires.sound (c.args.task - 1) (omega arith)
+
+pub overflow_add-first : goal.overflow_add-first
+overflow_add-first c =
+    let p = c.requires.sound in
+    let a = c.args in
+    omega (arith, data_start_small a.blocksize a.n p.block p.tasks, extended_before_small p (a.task - 1) (omega arith))
+
+pub overflow_mul-result : goal.overflow_mul-result
+overflow_mul-result c =
+    let p = c.requires.sound in
+    let a = c.args in
+    rw c.global_skip.ensures (omega (arith, rounds_small p (a.chunk - 1) (omega arith)))
+
+pub overflow_add-result : goal.overflow_add-result
+overflow_add-result c =
+    let p = c.requires.sound in
+    let a = c.args in
+    rw c.global_skip.ensures
+    (omega (
+      arith,
+      data_start_small a.blocksize a.n p.block p.tasks,
+      extended_before_small p (a.task - 1) (omega arith),
+      rounds_small p (a.chunk - 1) (omega arith),
+    ))
+
+pub returns : goal.returns
+unfolding chunk_start
+returns c = rw (c.global_skip.ensures, c.extended_before.ensures, c.data_start.ensures)

@@ -1,0 +1,7 @@
+use borrow.Author.Rules.{rules}
+use Rattle.format.specs.Layout.{globalskip}
+use Rattle.layout.proofs.global_skip.Goals as goal
+
+pub returns : goal.returns
+unfolding globalskip
+returns c = c.extended_before.ensures

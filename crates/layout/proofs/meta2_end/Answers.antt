@@ -1,0 +1,16 @@
+-- META2's start and length add up to a small number.
+use native.Mathlib.Omega.{arith}
+use borrow.Author.Rules.{rules}
+use Rattle.format.specs.Layout.{meta2_end}
+use Rattle.format.proofs.Chunks.{meta2_end_small}
+use Rattle.layout.proofs.meta2_end.Goals as goal
+
+pub overflow_add-result : goal.overflow_add-result
+unfolding meta2_end
+overflow_add-result c =
+    let p = c.requires in
+    omega (arith, meta2_end_small p.0 c.args.maxchunks p.1)
+
+pub returns : goal.returns
+unfolding meta2_end
+returns c = rw (c.meta2_length.ensures, c.meta2_start.ensures)

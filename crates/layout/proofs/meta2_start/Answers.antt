@@ -1,0 +1,22 @@
+-- The start of the data and the rounds of chunks are each small.
+use native.Mathlib.Omega.{arith}
+use borrow.Author.Rules.{rules}
+use Rattle.format.specs.Layout.{meta2_start}
+use Rattle.format.proofs.Bounds.{data_start_small, rounds_small}
+use Rattle.layout.proofs.meta2_start.Goals as goal
+
+pub overflow_mul-result : goal.overflow_mul-result
+overflow_mul-result c =
+    let p = c.requires in
+    rw c.global_skip.ensures (omega (arith, rounds_small p.0 c.args.maxchunks p.1))
+
+pub overflow_add-result : goal.overflow_add-result
+overflow_add-result c =
+    let p = c.requires in
+    let a = c.args in
+    rw c.global_skip.ensures
+    (omega (arith, data_start_small a.blocksize a.n p.0.block p.0.tasks, rounds_small p.0 a.maxchunks p.1))
+
+pub returns : goal.returns
+unfolding meta2_start
+returns c = rw (c.global_skip.ensures, c.data_start.ensures)

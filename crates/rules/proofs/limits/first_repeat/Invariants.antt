@@ -1,0 +1,17 @@
+-- The loop's invariant: every number passed is a new one. The measure is the numbers left.
+use Prim.Native.Nat.{◌≤◌, ◌-◌}
+use mathlib.Core.Path.{◌≡◌, sym}
+use mathlib.Core.Bool.{true}
+use borrow.Author.Rules.{rules}
+use lib.IntN.{pos}
+use lib.ListN.{get_or}
+use Rattle.lists.specs.Below.{all_below}
+use Rattle.lists.proofs.Below.{test_fails, test_holds, all_none, all_more, all_end, first_none, first_at}
+use Rattle.format.specs.Limits.{is_new}
+use Rattle.rules.proofs.limits.first_repeat.Given as goal
+
+abbrev pub invariant-loop-i : goal.invariant-loop-i
+invariant-loop-i l = (l.i ≤ l.n) × (all_below l.i (is_new (λ j. pos (get_or l.values j 0))) ≡ true)
+
+abbrev pub decreases-loop-i : goal.decreases-loop-i
+decreases-loop-i l = l.n - l.i

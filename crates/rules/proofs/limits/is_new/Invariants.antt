@@ -1,0 +1,21 @@
+-- The loop's invariant: the answer so far is that of the numbers passed. The measure is the numbers left.
+use Prim.Native.Nat.{ℕ, ◌≤◌, ◌-◌}
+use mathlib.Core.Path.{◌≡◌, ap, sym, ◌∙◌}
+use mathlib.Core.Bool.{Bool, not, ◌&&◌}
+use native.Mathlib.Nat.{le_antisymm}
+use native.Mathlib.Numerals.{add-one}
+use borrow.Author.Rules.{rules}
+use lib.Dec.{eqb}
+use lib.IntN.{pos}
+use lib.ListN.{get_or}
+use Rattle.lists.specs.Below.{all_below}
+use Rattle.endian.specs.Signed.{same_z}
+use Rattle.lists.proofs.Below.{all_none}
+use Rattle.format.specs.Limits.{is_new}
+use Rattle.rules.proofs.limits.is_new.Given as goal
+
+abbrev pub invariant-loop-j : goal.invariant-loop-j
+invariant-loop-j l = (l.j ≤ l.i) × (l.new ≡ all_below l.j (λ k. not (same_z (pos (get_or l.values k 0)) (pos l.value))))
+
+abbrev pub decreases-loop-j : goal.decreases-loop-j
+decreases-loop-j l = l.i - l.j

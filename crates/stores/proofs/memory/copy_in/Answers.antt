@@ -1,0 +1,21 @@
+-- Before each turn the first i bytes of src are pasted into part, and the rest of part is as it was.
+use mathlib.Core.Path.{◌≡◌, refl, subst}
+use mathlib.Core.List.{List}
+use Prim.Native.Nat.{ℕ, suc, ◌+◌, ◌-◌, ◌<◌, ◌≤◌}
+use native.Mathlib.Nat.{zero-add, le_antisymm}
+use native.Mathlib.Numerals.{add-one}
+use native.Mathlib.Omega.{arith}
+use lib.ListN.{length, get_or, set}
+use lib.Seq.{paste, paste-zero, paste-suc, take-length}
+use borrow.Author.Rules.{rules}
+use Rattle.lists.specs.Splice.{splice}
+use Rattle.stores.proofs.memory.copy_in.Goals as goal
+
+whole : (d s p : List ℕ) (i : ℕ) → i ≤ length s → length s ≤ i → p ≡ paste d 0 s i → p ≡ splice d 0 s
+unfolding splice
+whole d s p i h k e = rw (le_antisymm h k, take-length) at e
+
+pub returns : goal.returns
+returns c = let z = c in
+    let l = c.loop-i in
+    whole z.args.part.now z.args.src.now l.part l.i l.invariant.0 c.loop-i-test.false l.invariant.2

@@ -1,0 +1,22 @@
+-- The cells of all chunks are one span.
+use Rattle.std.proofs.Common.{mul-le-mul, arith, rules}
+use Rattle.format.specs.Record.{cell}
+use Rattle.tables.proofs.Rows.{task_in_row}
+use Rattle.tables.proofs.Held.{held_listed, held_span}
+use Rattle.tables.proofs.cells_held.Goals as goal
+
+pub span_ok-requires-clause-holds_listed : goal.span_ok-requires-clause-holds_listed
+span_ok-requires-clause-holds_listed c =
+    let h = c in
+    let s = c in
+    let p = s.requires in
+    let few = mul-le-mul p.0.0.tasks p.0.1 in
+    (held_listed p.0.0 _ p.0.2 h.chunks_hold.ensures, p.1.0)
+
+pub returns : goal.returns
+returns c =
+    let h = c in
+    let s = c in
+    let a = s.args in
+    let p = s.requires.sound in
+    held_span p.0 _ p.2 h.chunks_hold.ensures a.counts.now (cell a.table.now) a.m (λ t. omega arith) c.span_ok.ensures

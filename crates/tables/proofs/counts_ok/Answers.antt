@@ -1,0 +1,16 @@
+use Rattle.std.proofs.Common.{rules}
+use Rattle.lists.proofs.Below.{first_below, first_past}
+use Rattle.format.specs.Meta2.{counts_rule}
+use Rattle.tables.proofs.counts_ok.Goals as goal
+
+pub returns-then-first_outside-n : goal.returns-then-first_outside-n
+unfolding counts_rule
+returns-then-first_outside-n c =
+    let a = c in
+    rw (first_below _ (rw a.least_count.ensures at a.first_outside.ensures) c.if-first_outside-n.true)
+
+pub returns : goal.returns
+unfolding counts_rule
+returns c =
+    let a = c in
+    rw (first_past _ (rw a.least_count.ensures at a.first_outside.ensures) c.if-first_outside-n.false, c.greatest.ensures)

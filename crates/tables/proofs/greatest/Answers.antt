@@ -1,0 +1,22 @@
+-- The loop's invariant: `most` is the greatest number passed. The measure is the numbers left.
+use Rattle.std.proofs.Common.{◌≡◌, ◌-◌, ◌≤◌, get_or, sym, ap, ◌∙◌, ⊎_elim, le_antisymm, arith, rules}
+use native.Mathlib.Nat.{max-eq_left, max-eq_right}
+use Rattle.lists.specs.Below.{greatest_below}
+use Rattle.lists.proofs.Below.{greatest_none, greatest_more}
+use Rattle.tables.proofs.greatest.Goals as goal
+
+pub loop-i-init : goal.loop-i-init
+loop-i-init c = (search rules, sym (greatest_none _))
+
+pub loop-i-preserved : goal.loop-i-preserved
+loop-i-preserved c =
+    let xs = c.args.values.now in
+    let i = c.loop-i.i in
+    let all = c.loop-i.invariant.1 in
+    let more = greatest_more (λ j. get_or xs j 0) i in (
+      search rules,
+      ⊎_elim
+          (λ w. w.2 ∙ sym (more ∙ max-eq_right (omega (arith, w.0.taken))))
+          (λ w. w.1 ∙ all ∙ sym (more ∙ max-eq_left (omega (arith, w.0.left))))
+          c.if-most-values.branch,
+    )

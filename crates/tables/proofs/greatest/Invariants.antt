@@ -1,0 +1,12 @@
+-- The loop's invariant: `most` is the greatest number passed. The measure is the numbers left.
+use Rattle.std.proofs.Common.{◌≡◌, ◌-◌, ◌≤◌, get_or, sym, ap, ◌∙◌, ⊎_elim, le_antisymm, arith, rules}
+use native.Mathlib.Nat.{max-eq_left, max-eq_right}
+use Rattle.lists.specs.Below.{greatest_below}
+use Rattle.lists.proofs.Below.{greatest_none, greatest_more}
+use Rattle.tables.proofs.greatest.Given as goal
+
+abbrev pub invariant-loop-i : goal.invariant-loop-i
+invariant-loop-i l = (l.i ≤ l.n) × (l.most ≡ greatest_below l.i (λ j. get_or l.values j 0))
+
+abbrev pub decreases-loop-i : goal.decreases-loop-i
+decreases-loop-i l = l.n - l.i

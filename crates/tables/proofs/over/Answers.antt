@@ -1,0 +1,16 @@
+-- By the top bits of the three words.
+use Rattle.std.proofs.Common.{◌^◌, Bool, ◌&&◌, ltb, ap, ◌∙◌, rules}
+use mathlib.Core.Bool.{and_assoc}
+use lib.Bits.{bit_or}
+use Rattle.tables.proofs.Values.{or_top, at_most}
+use Rattle.tables.proofs.over.Goals as goal
+
+pub returns : goal.returns
+returns c =
+    let a = c.args in
+    let d = c.wrapping_sub_u64.result in
+    or_top (bit_or a.bad a.bits) d
+    ∙ ap (λ (q : Bool). q && ltb d (2 ^ 63)) (or_top a.bad a.bits)
+    ∙ and_assoc (ltb a.bad (2 ^ 63)) (ltb a.bits (2 ^ 63)) (ltb d (2 ^ 63))
+    ∙ ap (λ (q : Bool). ltb a.bad (2 ^ 63) && q)
+    (at_most a.holds a.bits d c.requires c.ranges.bits.fits c.wrapping_sub_u64.type-inv c.wrapping_sub_u64.ensures)

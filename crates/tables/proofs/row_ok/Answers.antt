@@ -1,0 +1,24 @@
+-- The loop's invariant: no top bit is set exactly where every cell passed keeps its rule. The measure is the tasks left.
+use Rattle.std.proofs.Common.{◌≡◌, ℕ, ◌+◌, ◌-◌, ◌^◌, ◌≤◌, Bool, ◌&&◌, ltb, get_or, ℤ, pos, sym, ap, ◌∙◌, le_antisymm, arith, to_z-of_z, w64, rules}
+use borrow.Author.Rules.{sfits_of}
+use Rattle.lists.specs.Below.{all_below}
+use Rattle.lists.proofs.Below.{all_none, all_turn}
+use Rattle.format.specs.Meta2.{value_rule}
+use Rattle.tables.proofs.row_ok.Goals as goal
+
+pub loop-i-init : goal.loop-i-init
+loop-i-init c = (search rules, sym (all_none _))
+
+pub loop-i-preserved : goal.loop-i-preserved
+loop-i-preserved c =
+    let tested : let l = (turn c).loop-i in
+    ltb c.value_bad-bad.result (2 ^ 63) ≡ (ltb l.bad (2 ^ 63) && Rule (start (turn c)) l.i) = let a = (start (turn c)).args in
+    let l = (turn c).loop-i in
+    let known = c.value-bad-arg.given in
+    let task = a.first + l.i in
+    c.value_bad-bad.ensures
+    ∙ ap (λ (z : ℤ). ltb l.bad (2 ^ 63) && value_rule (ltb a.k (get_or a.counts.now task 0)) (get_or a.holds.now task 0) z)
+    (to_z-of_z {w = w64} {z = get_or a.cells.now (a.at + l.i) (pos 0)} (sfits_of known)) in
+    let l = (turn c).loop-i in
+    let p = Rule (start (turn c)) in
+    (search rules, tested ∙ ap (λ (q : Bool). q && p l.i) l.invariant.1 ∙ sym (all_turn p l.i))

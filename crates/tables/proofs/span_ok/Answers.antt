@@ -1,0 +1,61 @@
+-- The loop's invariant: every cell passed keeps its rule, and where cells are left, the next one is that of task i and chunk `row`. The measure
+-- is the cells left.
+use Rattle.std.proofs.Common.{◌≡◌, ℕ, ◌+◌, ◌-◌, ◌*◌, ◌<◌, ◌≤◌, Bool, true, arith, rules}
+use Rattle.lists.specs.Below.{all_below}
+use Rattle.lists.proofs.Below.{all_none, all_end, run_holds, run_fails}
+use Rattle.format.specs.Record.{cell}
+use Rattle.tables.specs.Spans.{rule_at}
+use Rattle.tables.proofs.Rows.{row_next, row_placed}
+use Rattle.tables.proofs.Held.{held_fewer}
+use Rattle.tables.proofs.span_ok.Goals as goal
+
+pub loop-at-init : goal.loop-at-init
+loop-at-init c = (search rules, search rules, λ some. (omega arith, c.requires.count_in_bounds.2 some), all_none _)
+
+pub returns-then-not-row_ok : goal.returns-then-not-row_ok
+returns-then-not-row_ok c =
+    let place : let a = (start c).args in
+    let l = c.loop-at in
+    (a.k * a.n + a.first + l.at ≡ l.row * a.n + l.i) × (l.i < a.n) = c.loop-at.invariant.2 c.loop-at-test.true in
+    let width : let a = (start c).args in
+    let t = c.loop-at in
+    (0 < c.least-w.result) × (t.i + c.least-w.result ≤ a.n) × (t.at + c.least-w.result ≤ a.count) = let p = place in
+    let e = c.least-w.ensures in
+    (omega arith, omega arith, omega arith) in
+    let tested : let l = c in
+    c.row_ok.result ≡ all_below l.least-w.result (λ t. Rule (start l) (l.loop-at.at + t)) = let l = c in
+    let a = (start l).args in
+    let t = l.loop-at in
+    let p = place in
+    row_placed a.n a.holds.now a.counts.now t.row t.i l.least-w.result (λ j. cell a.cells.now (t.at + j))
+    width.1 (λ j. omega arith) c.row_ok.ensures in
+    let l = c in
+    run_fails (Rule (start l)) l.loop-at.at l.least-w.result width.2 tested c.if-not-row_ok.true-raw
+
+pub loop-at-preserved : goal.loop-at-preserved
+loop-at-preserved c =
+    let place : let a = (start c).args in
+    let l = c.loop-at in
+    (a.k * a.n + a.first + l.at ≡ l.row * a.n + l.i) × (l.i < a.n) = c.loop-at.invariant.2 c.loop-at-test.true in
+    let width : let a = (start c).args in
+    let t = c.loop-at in
+    (0 < c.least-w.result) × (t.i + c.least-w.result ≤ a.n) × (t.at + c.least-w.result ≤ a.count) = let p = place in
+    let e = c.least-w.ensures in
+    (omega arith, omega arith, omega arith) in
+    let tested : let l = c in
+    c.row_ok.result ≡ all_below l.least-w.result (λ t. Rule (start l) (l.loop-at.at + t)) = let l = c in
+    let a = (start l).args in
+    let t = l.loop-at in
+    let p = place in
+    row_placed a.n a.holds.now a.counts.now t.row t.i l.least-w.result (λ j. cell a.cells.now (t.at + j))
+    width.1 (λ j. omega arith) c.row_ok.ensures in
+    let l = c in
+    let t = l.loop-at in
+    let w = width in
+    let p = place in
+    let e = l.least-w.ensures in (
+      w.2,
+      omega arith,
+      λ more. (omega (arith, row_next (start l).args.n t.row), omega arith),
+      run_holds (Rule (start l)) t.at l.least-w.result t.invariant.3 tested c.if-not-row_ok.false-raw,
+    )

@@ -1,0 +1,11 @@
+-- By the top bit of the count and of the difference.
+use Rattle.std.proofs.Common.{rules}
+use Rattle.tables.proofs.Values.{mask_is}
+use Rattle.tables.proofs.unused_mask.Goals as goal
+
+pub returns : goal.returns
+returns c =
+    let s = c in
+    let d = c.wrapping_sub_u64-under in
+    let r = c.wrapping_sub_u64 in
+    mask_is s.args.count s.args.k d.result r.result s.requires s.ranges.count.fits d.type-inv d.ensures r.type-inv r.ensures

@@ -1,0 +1,15 @@
+-- By the mask. A signed parameter is what the machine reads back from its bits.
+use Rattle.std.proofs.Common.{◌^◌, Bool, ◌&&◌, ltb, ap, ◌∙◌, arith, to_z-of_z, rules}
+use lib.Bits.{bit_xor, and_le_l}
+use Rattle.endian.specs.Signed.{bits_of}
+use Rattle.tables.proofs.Values.{masked}
+use Rattle.tables.proofs.value_bad.Goals as goal
+
+pub returns : goal.returns
+returns c =
+    let s = c in
+    let b = c.bits64 in
+    c.over.ensures
+    ∙ ap (λ (q : Bool). ltb s.args.bad (2 ^ 63) && q)
+    (masked s.args.holds s.requires.1 (ltb s.args.k s.args.count) s.args.value s.ranges.value.sfits
+    (b.ensures ∙ ap (bits_of 63) (to_z-of_z s.ranges.value)) b.type-inv c.unused_mask-unused.ensures)
