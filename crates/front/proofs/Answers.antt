@@ -122,16 +122,16 @@ module _ (f : File) (xs : List ℕ) (len : ℕ) where
       let at20 : b ≡ number_at big 4 xs blocksize_at = λ i. (p.blocksize_is i).value in
       let at24 : n ≡ number_at big 4 xs tasks_at = λ i. (p.tasks_are i).value in
       let (format, (block, (tasks, (files, (number, rest))))) = none_fails (field_tests xs f len) (field_numbered xs f len) zero in
-      let formed : format_rule (signed 31 v) ≡ true = rw (at16, p.order-is) (not-false _ format) in
-      let blocked : blocksize_rule (signed 31 b) ≡ true = rw (at20, p.order-is) (not-false _ block) in
-      let counted : tasks_rule (signed 31 n) ≡ true = rw (at24, p.order-is) (not-false _ tasks) in
+      let formed : format_rule (signed 31 v) ≡ true = rw (at16, p.order_is) (not-false _ format) in
+      let blocked : blocksize_rule (signed 31 b) ≡ true = rw (at20, p.order_is) (not-false _ block) in
+      let counted : tasks_rule (signed 31 n) ≡ true = rw (at24, p.order_is) (not-false _ tasks) in
       let known : v < 2 ^ 31 = omega (arith, format_facts v (sym (format_number v) ∙ formed)) in
       let small : b < 2 ^ 31 = omega (arith, blocksize_facts b (sym (blocksize_number b) ∙ blocked)) in
       let few : n < 2 ^ 31 = omega (arith, tasks_facts n (sym (tasks_number n) ∙ counted)) in
       rw (
         ap natural (within_one (files_of f) (files_field (big_in xs) xs) (not-false _ files)),
         ap natural (within_one (file_of f) (file_number_field (big_in xs) xs) (not-false _ number)),
-        sym p.order-is,
+        sym p.order_is,
         sym at16,
         sym at20,
         sym at24,

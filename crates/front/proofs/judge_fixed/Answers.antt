@@ -117,8 +117,8 @@ returns c =
     let f = e in
     let g = f in
     let s = g in
-    let version = to_z-of_z {w = w32} (sfits_of t.struct_told.given.0.1) ∙ (λ i. (t.get_i32-version.ensures i).value) in
-    let patch = to_z-of_z {w = w32} (sfits_of t.struct_told-2-1.given.0.1) ∙ (λ i. (t.get_i32-patch.ensures i).value) in
+    let version = to_z-of_z {w = w32} (search rules) ∙ (λ i. (t.get_i32-version.ensures i).value) in
+    let patch = to_z-of_z {w = w32} (search rules) ∙ (λ i. (t.get_i32-patch.ensures i).value) in
     fields_passed _ _ _ started f.judge_fields-verdict.ensures e.if-verdict-ne0.false
     ((λ i. head_of (order_number s.judge_start-start.result.big i) (version i) (patch i) g.get_u32-format.result.value
     g.get_u32-blocksize.result.value g.get_u32-n.result.value (c.files_of.ensures i) (c.number_of.ensures i))
