@@ -10,8 +10,8 @@ span_ok-requires-clause-holds_listed c =
     let h = c in
     let s = c in
     let p = s.requires in
-    let few = mul-le-mul p.0.0.tasks p.0.1 in
-    (held_listed p.0.0 _ p.0.2 h.chunks_hold.ensures, p.1.0)
+    let few = mul-le-mul p.sound.0.tasks p.sound.1 in
+    (held_listed p.sound.0 _ p.sound.2 h.chunks_hold.ensures, p.n_in_bounds.0)
 
 pub returns : goal.returns
 returns c =

@@ -4,6 +4,7 @@ use native.Mathlib.Nat.{max-eq_left, max-eq_right}
 use Rattle.lists.specs.Below.{greatest_below}
 use Rattle.lists.proofs.Below.{greatest_none, greatest_more}
 use Rattle.tables.proofs.greatest.Goals as goal
+use Rattle.tables.proofs.greatest.Goals.{then-most-values, else-most-values}
 
 pub loop-i-init : goal.loop-i-init
 loop-i-init c = (search rules, sym (greatest_none _))
@@ -15,8 +16,8 @@ loop-i-preserved c =
     let all = c.loop-i.invariant.1 in
     let more = greatest_more (λ j. get_or xs j 0) i in (
       search rules,
-      ⊎_elim
-          (λ w. w.2 ∙ sym (more ∙ max-eq_right (omega (arith, w.0.taken))))
-          (λ w. w.1 ∙ all ∙ sym (more ∙ max-eq_left (omega (arith, w.0.left))))
-          c.if-most-values.branch,
+      elim c.if-most-values.branch [
+        then-most-values w ↦ w.most-is ∙ sym (more ∙ max-eq_right (omega arith))
+        | else-most-values w ↦ w.most-is ∙ all ∙ sym (more ∙ max-eq_left (omega arith))
+      ],
     )

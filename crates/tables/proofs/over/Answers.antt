@@ -13,4 +13,4 @@ returns c =
     ∙ ap (λ (q : Bool). q && ltb d (2 ^ 63)) (or_top a.bad a.bits)
     ∙ and_assoc (ltb a.bad (2 ^ 63)) (ltb a.bits (2 ^ 63)) (ltb d (2 ^ 63))
     ∙ ap (λ (q : Bool). ltb a.bad (2 ^ 63) && q)
-    (at_most a.holds a.bits d c.requires c.ranges.bits.fits c.wrapping_sub_u64.type-inv c.wrapping_sub_u64.ensures)
+    (at_most a.holds a.bits d c.requires c.ranges.bits.fits c.wrapping_sub_u64.type_inv c.wrapping_sub_u64.ensures.value)

@@ -11,14 +11,15 @@ loop-i-init c = (search rules, sym (all_none _))
 
 pub loop-i-preserved : goal.loop-i-preserved
 loop-i-preserved c =
-    let tested : let l = (turn c).loop-i in
-    ltb c.value_bad-bad.result (2 ^ 63) ≡ (ltb l.bad (2 ^ 63) && Rule (start (turn c)) l.i) = let a = (start (turn c)).args in
-    let l = (turn c).loop-i in
-    let known = c.value-bad-arg.given in
+    let Rule : ℕ → Bool = λ i. let a = c.args in
+    value_rule (ltb a.k (get_or a.counts.now (a.first + i) 0)) (get_or a.holds.now (a.first + i) 0) (get_or a.cells.now (a.at + i) (pos 0)) in
+    let tested : let l = c.loop-i in
+    ltb c.value_bad-bad.result (2 ^ 63) ≡ (ltb l.bad (2 ^ 63) && Rule l.i) = let a = c.args in
+    let l = c.loop-i in
     let task = a.first + l.i in
     c.value_bad-bad.ensures
     ∙ ap (λ (z : ℤ). ltb l.bad (2 ^ 63) && value_rule (ltb a.k (get_or a.counts.now task 0)) (get_or a.holds.now task 0) z)
-    (to_z-of_z {w = w64} {z = get_or a.cells.now (a.at + l.i) (pos 0)} (sfits_of known)) in
-    let l = (turn c).loop-i in
-    let p = Rule (start (turn c)) in
+    (to_z-of_z {w = w64} {z = get_or a.cells.now (a.at + l.i) (pos 0)} (search rules)) in
+    let l = c.loop-i in
+    let p = Rule in
     (search rules, tested ∙ ap (λ (q : Bool). q && p l.i) l.invariant.1 ∙ sym (all_turn p l.i))

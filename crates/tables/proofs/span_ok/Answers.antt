@@ -14,37 +14,41 @@ loop-at-init c = (search rules, search rules, λ some. (omega arith, c.requires.
 
 pub returns-then-not-row_ok : goal.returns-then-not-row_ok
 returns-then-not-row_ok c =
-    let place : let a = (start c).args in
+    let Rule : ℕ → Bool = λ t. let a = c.args in
+    rule_at a.n a.holds.now a.counts.now (a.k * a.n + a.first + t) (cell a.cells.now t) in
+    let place : let a = c.args in
     let l = c.loop-at in
     (a.k * a.n + a.first + l.at ≡ l.row * a.n + l.i) × (l.i < a.n) = c.loop-at.invariant.2 c.loop-at-test.true in
-    let width : let a = (start c).args in
+    let width : let a = c.args in
     let t = c.loop-at in
     (0 < c.least-w.result) × (t.i + c.least-w.result ≤ a.n) × (t.at + c.least-w.result ≤ a.count) = let p = place in
     let e = c.least-w.ensures in
     (omega arith, omega arith, omega arith) in
     let tested : let l = c in
-    c.row_ok.result ≡ all_below l.least-w.result (λ t. Rule (start l) (l.loop-at.at + t)) = let l = c in
-    let a = (start l).args in
+    c.row_ok.result ≡ all_below l.least-w.result (λ t. Rule (l.loop-at.at + t)) = let l = c in
+    let a = c.args in
     let t = l.loop-at in
     let p = place in
     row_placed a.n a.holds.now a.counts.now t.row t.i l.least-w.result (λ j. cell a.cells.now (t.at + j))
     width.1 (λ j. omega arith) c.row_ok.ensures in
     let l = c in
-    run_fails (Rule (start l)) l.loop-at.at l.least-w.result width.2 tested c.if-not-row_ok.true-raw
+    run_fails (Rule) l.loop-at.at l.least-w.result width.2 tested c.if-not-row_ok.true-raw
 
 pub loop-at-preserved : goal.loop-at-preserved
 loop-at-preserved c =
-    let place : let a = (start c).args in
+    let place : let a = c.args in
     let l = c.loop-at in
     (a.k * a.n + a.first + l.at ≡ l.row * a.n + l.i) × (l.i < a.n) = c.loop-at.invariant.2 c.loop-at-test.true in
-    let width : let a = (start c).args in
+    let width : let a = c.args in
     let t = c.loop-at in
     (0 < c.least-w.result) × (t.i + c.least-w.result ≤ a.n) × (t.at + c.least-w.result ≤ a.count) = let p = place in
     let e = c.least-w.ensures in
     (omega arith, omega arith, omega arith) in
+    let Rule : ℕ → Bool = λ t. let a = c.args in
+    rule_at a.n a.holds.now a.counts.now (a.k * a.n + a.first + t) (cell a.cells.now t) in
     let tested : let l = c in
-    c.row_ok.result ≡ all_below l.least-w.result (λ t. Rule (start l) (l.loop-at.at + t)) = let l = c in
-    let a = (start l).args in
+    c.row_ok.result ≡ all_below l.least-w.result (λ t. Rule (l.loop-at.at + t)) = let l = c in
+    let a = c.args in
     let t = l.loop-at in
     let p = place in
     row_placed a.n a.holds.now a.counts.now t.row t.i l.least-w.result (λ j. cell a.cells.now (t.at + j))
@@ -56,6 +60,6 @@ loop-at-preserved c =
     let e = l.least-w.ensures in (
       w.2,
       omega arith,
-      λ more. (omega (arith, row_next (start l).args.n t.row), omega arith),
-      run_holds (Rule (start l)) t.at l.least-w.result t.invariant.3 tested c.if-not-row_ok.false-raw,
+      λ more. (omega (arith, row_next c.args.n t.row), omega arith),
+      run_holds (Rule) t.at l.least-w.result t.invariant.3 tested c.if-not-row_ok.false-raw,
     )

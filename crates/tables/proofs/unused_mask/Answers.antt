@@ -8,4 +8,4 @@ returns c =
     let s = c in
     let d = c.wrapping_sub_u64-under in
     let r = c.wrapping_sub_u64 in
-    mask_is s.args.count s.args.k d.result r.result s.requires s.ranges.count.fits d.type-inv d.ensures r.type-inv r.ensures
+    mask_is s.args.count s.args.k d.result r.result s.requires s.ranges.count.fits d.type_inv d.ensures.value r.type_inv r.ensures.value

@@ -12,4 +12,4 @@ returns c =
     c.over.ensures
     ∙ ap (λ (q : Bool). ltb s.args.bad (2 ^ 63) && q)
     (masked s.args.holds s.requires.1 (ltb s.args.k s.args.count) s.args.value s.ranges.value.sfits
-    (b.ensures ∙ ap (bits_of 63) (to_z-of_z s.ranges.value)) b.type-inv c.unused_mask-unused.ensures)
+    (b.ensures ∙ ap (bits_of 63) (to_z-of_z s.ranges.value)) b.type_inv c.unused_mask-unused.ensures)
