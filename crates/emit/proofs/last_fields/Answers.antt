@@ -1,0 +1,46 @@
+-- Both fields made, and copied in as one run.
+use mathlib.Core.Path.{refl, ◌∙◌}
+use Prim.Native.Nat.{ℕ, ◌-◌}
+use native.Mathlib.Omega.{arith}
+use lib.ListN.{length, replicate, length-take, length-drop}
+use borrow.Author.Rules.{rules}
+use Rattle.endian.specs.Number.{digits}
+use Rattle.endian.proofs.Number.{length_digits}
+use Rattle.lists.proofs.Splice.{splice_over, put_first, put_then}
+use Rattle.lists.proofs.Stores.{spends_part, spends_same}
+use Rattle.format.specs.Layout.{meta1_end}
+use Rattle.format.specs.Meta1.{last_fields}
+use Rattle.format.proofs.Stored.{length_last}
+use Rattle.emit.proofs.last_fields.Goals as goal
+
+pub slice_bounds-copy_within-count : goal.slice_bounds-copy_within-count
+unfolding meta1_end
+slice_bounds-copy_within-count c =
+    let l = c in
+    omega (arith, l.last_at-at.ensures, l.requires)
+
+pub copy_within-requires : goal.copy_within-requires
+unfolding meta1_end
+copy_within-requires c =
+    let l = c in
+    simp (length-take, length-drop) (omega (arith, l.last_at-at.ensures, l.requires, c.fields-4-1.given))
+
+pub returns : goal.returns
+unfolding last_fields meta1_end
+returns c =
+    let copy = c in
+    let second = copy in
+    let first = second in
+    let l = first in
+    let z = l in
+    let a = z.args in
+    let xs = a.image.now in
+    let zeros = replicate {A = ℕ} 12 0 in
+    let maxchunks = put_first zeros 0 (digits a.big 4 a.maxchunks) 4 (length_digits a.big 4 _) first.put_u32.ensures in
+    let both = (put_then zeros 0 _ (digits a.big 8 a.start) 8 maxchunks (length_digits a.big 8 _) second.put_u64.ensures (omega arith)).0 in
+    let long = length_last a.big a.maxchunks a.start in
+    let made = both ∙ splice_over zeros (last_fields a.big a.maxchunks a.start) long in
+    let at = l.last_at-at.result in
+    spends_same l.last_at-at.ensures refl
+    (spends_part a.budget xs at (length xs - at) (last_fields a.big a.maxchunks a.start) (omega (arith, long, z.requires, l.last_at-at.ensures))
+    (omega (arith, z.requires, l.last_at-at.ensures)) (rw made at copy.copy_within.ensures))

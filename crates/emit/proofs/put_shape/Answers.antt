@@ -1,0 +1,39 @@
+-- Five stores, each where the last ended.
+use mathlib.Core.Path.{◌≡◌, ap, ◌∙◌}
+use Prim.Native.Nat.{ℕ}
+use native.Mathlib.Omega.{arith}
+use lib.ListN.{length, take, drop, replicate, length-drop, length-replicate}
+use lib.Seq.{length-take-le}
+use borrow.Author.Rules.{rules}
+use Rattle.endian.proofs.Number.{length_digits}
+use Rattle.lists.proofs.Splice.{splice_whole, put_first, put_then}
+use Rattle.emit.specs.Parts.{shape}
+use Rattle.emit.proofs.put_shape.Goals as goal
+
+pub returns : goal.returns
+unfolding shape
+returns c =
+    let fifth = c in
+    let fourth = fifth in
+    let third = fourth in
+    let second = third in
+    let first = second in
+    let z = first in
+    let a = z.args in
+    let xs = a.fields.now in
+    let ys = fourth.put_u32-4.new.s in
+    let wide = length_digits a.big 4 in
+    let blocksize = put_first xs 20 _ 4 (wide a.blocksize) first.put_u32.ensures in
+    let tasks = put_then xs 20 _ _ 4 blocksize (wide a.n) second.put_u32-2.ensures (omega (arith, z.requires)) in
+    let files = put_then xs 20 _ _ 4 tasks (wide a.files) third.put_u32-3.ensures (omega (arith, z.requires)) in
+    let number = put_then xs 20 _ _ 4 files (wide a.file) fourth.put_u32-4.ensures (omega (arith, z.requires)) in
+    let flags : length (take 16 (drop 36 ys)) ≡ 16 = length-take-le 16 (drop 36 ys) (simp length-drop (omega (
+      arith,
+      z.requires,
+      fifth.fields-4-1.given,
+      fourth.fields-3-1.given,
+      third.fields-2-1.given,
+      second.fields.given,
+    ))) in
+    let cleared = splice_whole ys 36 (replicate 16 0) 16 (fifth.clear.ensures ∙ ap (λ (k : ℕ). replicate k 0) flags) (length-replicate {A = ℕ} 16 0) in
+    (put_then xs 20 _ (replicate 16 0) 16 number (length-replicate {A = ℕ} 16 0) cleared (omega (arith, z.requires))).0

@@ -1,0 +1,20 @@
+-- Its two calls, one after the other.
+use mathlib.Core.Path.{sym, ◌∙◌}
+use borrow.Author.Rules.{rules}
+use Rattle.format.proofs.Passing.{head_kept}
+use Rattle.format.specs.Reads.{loaded_tests}
+use Rattle.format.proofs.LoadedRecords.{loaded_holds}
+use Rattle.records.proofs.loaded_refusal.Goals as goal
+
+pub record_refusal-requires : goal.record_refusal-requires
+record_refusal-requires c =
+    let s = c in (
+      s.requires,
+      λ e.
+          let (head, few, _) = loaded_holds s.args.file s.args.l s.args.lists.now (sym c.loaded_ok-sound.ensures ∙ e) in
+          (head_kept _ _ head s.requires, few),
+    )
+
+pub returns : goal.returns
+unfolding loaded_tests
+returns c = rw (← c.loaded_ok-sound.ensures) c.record_refusal.ensures
