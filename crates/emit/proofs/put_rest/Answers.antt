@@ -48,7 +48,7 @@ put_zeros-requires c =
     let second = third in
     let first = second in (
       omega (arith, z.requires, d.data_start-end.ensures),
-      omega (arith, z.requires, d.data_start-end.ensures, c.image-3-1.given, second.image-2-1.given, first.image.given),
+      omega (arith, z.requires, d.data_start-end.ensures, c.put_list-left-2.auto.image, second.put_list-left.auto.image, first.image.given),
     )
 
 pub returns : goal.returns
