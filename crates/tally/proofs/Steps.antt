@@ -226,9 +226,9 @@ module _ {s : Session} {size : ℕ → ℕ} where
     other_cells = λ j l. refl;
     other_entries = λ j l. refl;
   }
-  run_simulates {b} f (q ∷ qs) =
+  run_simulates {b = b} f (q ∷ qs) =
       let t = step_simulates f q in
-      let r = run_simulates t.follows qs in
+      let r = run_simulates {b = feed (terms_in s size) b (fed_of q)} t.follows qs in
       record {
         numbers_are = ap₂ ◌∷◌ t.number_is r.numbers_are;
         image_is = r.image_is ∙ ap (λ (m : List ℕ). image_after (terms_in s size) (feed (terms_in s size) b (fed_of q)) m qs) t.image_is;

@@ -225,8 +225,8 @@ module _ (s : Session) (size : ℕ → ℕ) (M : ℕ) (lo : Layout s.head.blocks
   pub stream_all : {b : Tallies} {st : State} → Simulates s size b st → M ≤ length st.image → (qs : List Request) (i : ℕ) → i < s.head.n
       → stream_in (writes st qs) i ≡ stream_in st i ++ accepted (i + 1) qs (refusals st qs)
   stream_all f long [] i l = sym (append-nil _)
-  stream_all f long (q ∷ qs) i l =
-      stream_all (step_simulates f q).follows (still_long f long q) qs i l
+  stream_all {b = b} f long (q ∷ qs) i l =
+      stream_all {b = feed (terms_in s size) b (fed_of q)} (step_simulates f q).follows (still_long f long q) qs i l
       ∙ rw (stream_step f long q i l, append_assoc)
 
 -- writes leave what stands before the chunks
@@ -245,4 +245,5 @@ front_step {s} {size} {b} {st} f q =
 pub front_kept : {s : Session} {size : ℕ → ℕ} {b : Tallies} {st : State} → Simulates s size b st → (qs : List Request)
     → take (data_start s.head.blocksize s.head.n) (writes st qs).image ≡ take (data_start s.head.blocksize s.head.n) st.image
 front_kept f [] = refl
-front_kept f (q ∷ qs) = front_kept (step_simulates f q).follows qs ∙ front_step f q
+front_kept {s = s} {size = size} {b = b} f (q ∷ qs) =
+    front_kept {b = feed (terms_in s size) b (fed_of q)} (step_simulates f q).follows qs ∙ front_step f q
