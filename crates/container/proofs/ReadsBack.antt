@@ -81,9 +81,9 @@ module _ (f : File) (image : List ℕ) (s : Contents) (one : HasMeta1 f image s)
       )
       (suits_holds f (head_said f s) refl refl)
 
-  cells_agree : cells_agree (head_said f s) (lists_said s) s.maxchunks table ≡ true
+  cells_agree_holds : cells_agree (head_said f s) (lists_said s) s.maxchunks table ≡ true
   unfolding cells_agree
-  cells_agree =
+  cells_agree_holds =
       values_agree s.n s.maxchunks _ _ _ _ _ _ (holds_agree (head_said f s) (size_of (lists_said s)) s.size size_is) (λ i l. refl) (λ j l. refl)
       ∙ values_kept f image s one two _ _ count_is used_cells unused_cells
 
@@ -91,7 +91,7 @@ module _ (f : File) (image : List ℕ) (s : Contents) (one : HasMeta1 f image s)
   unfolding loaded_tests end_at
   loaded_passes =
       record_passes 0 (loaded_sound f made (lists_said s)) (head_said f s) (lists_said s) s.maxchunks image table refl loaded_sound_holds
-      (rw (end_at_agree (head_said f s) (size_of (lists_said s)) s.size size_is s.maxchunks) two.fits) wide cells_agree
+      (rw (end_at_agree (head_said f s) (size_of (lists_said s)) s.size size_is s.maxchunks) two.fits) wide cells_agree_holds
 
   module _ (i : ℕ) (l : i < s.n) where
     passes : first_failing (read_tests loaded (i + 1)) ≡ 0
