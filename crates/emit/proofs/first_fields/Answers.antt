@@ -6,7 +6,7 @@ use lib.IntN.{ℤ}
 use lib.ListN.{replicate}
 use mir.Facts.{to_z-of_z}
 use mir.Syntax.{w32}
-use borrow.Author.Rules.{rules, sfits_of}
+use borrow.Author.Rules.{rules}
 use Rattle.lists.specs.Splice.{splice}
 use Rattle.lists.proofs.Splice.{splice_over, put_first, put_then}
 use Rattle.emit.specs.Parts.{versions, first_fields}
@@ -17,13 +17,12 @@ pub returns : goal.returns
 returns c =
     let second = c in
     let first = second in
-    let told = first.struct_told.given in
     let z = first in
     let a = z.args in
     let h = a.h in
     let xs = replicate {A = ℕ} 52 0 in
     let bytes =
-    ap₂ (λ (v p : ℤ). versions a.big v p h.format) (to_z-of_z {w = w32} {z = h.version} (sfits_of told.1.0.1)) (to_z-of_z {w = w32} {z = h.patch} (sfits_of told.1.1.0.1)) in
+    ap₂ (λ (v p : ℤ). versions a.big v p h.format) (to_z-of_z {w = w32} {z = h.version} (search rules)) (to_z-of_z {w = w32} {z = h.patch} (search rules)) in
     let start = put_first xs 0 _ 20 (length_versions a.big h.version h.patch h.format) (first.put_versions.ensures ∙ ap (splice xs 0) bytes) in
     (put_then xs 0 _ _ 32 start (length_shape a.big h.blocksize h.n h.files h.file) second.put_shape.ensures (omega arith)).0
     ∙ splice_over xs (first_fields a.big h) (length_first a.big h)

@@ -3,7 +3,6 @@ use mathlib.Core.Path.{refl, ◌∙◌}
 use Prim.Native.Nat.{ℕ, ◌-◌}
 use native.Mathlib.Omega.{arith}
 use lib.ListN.{length, replicate, length-take, length-drop}
-use borrow.Author.Rules.{rules}
 use Rattle.endian.specs.Number.{digits}
 use Rattle.endian.proofs.Number.{length_digits}
 use Rattle.lists.proofs.Splice.{splice_over, put_first, put_then}
@@ -12,6 +11,10 @@ use Rattle.format.specs.Layout.{meta1_end}
 use Rattle.format.specs.Meta1.{last_fields}
 use Rattle.format.proofs.Stored.{length_last}
 use Rattle.emit.proofs.last_fields.Goals as goal
+
+pub slice_bounds-copy_within-start : goal.slice_bounds-copy_within-start
+unfolding meta1_end
+slice_bounds-copy_within-start c = omega (arith, c.last_at-at.ensures, c.requires)
 
 pub slice_bounds-copy_within-count : goal.slice_bounds-copy_within-count
 unfolding meta1_end
@@ -23,7 +26,7 @@ pub copy_within-requires : goal.copy_within-requires
 unfolding meta1_end
 copy_within-requires c =
     let l = c in
-    simp (length-take, length-drop) (omega (arith, l.last_at-at.ensures, l.requires, c.fields-4-1.given))
+    simp (length-take, length-drop) (omega (arith, l.last_at-at.ensures, l.requires, c.put_u64.auto.s))
 
 pub returns : goal.returns
 unfolding last_fields meta1_end

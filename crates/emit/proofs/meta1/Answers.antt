@@ -20,7 +20,7 @@ copy_within-requires c =
     let second = c in
     let first = second in
     let z = first in
-    omega (arith, z.requires, long, c.image-2-1.given, second.put_zeros-left.auto.image)
+    omega (arith, z.requires, long, c.put_rest-left.auto.image, second.put_zeros-left.auto.image)
 
 pub returns : goal.returns
 unfolding opening_stores

@@ -18,10 +18,7 @@ put_list-left-requires c = let a = c.args in (search rules, omega (arith, meta2_
 pub put_cells-requires : goal.put_cells-requires
 put_cells-requires c =
     let a = c.args in
-    record {
-      n_in_bounds = search rules;
-      i_value = omega (arith, meta2_parts a.n a.maxchunks);
-    }
+    (search rules, omega (arith, meta2_parts a.n a.maxchunks))
 
 pub returns : goal.returns
 unfolding meta2

@@ -5,7 +5,6 @@ use Prim.Native.Nat.{ℕ, ◌-◌}
 use native.Mathlib.Omega.{arith}
 use lib.ListN.{length, take, drop, length-drop}
 use lib.Seq.{take_all}
-use borrow.Author.Rules.{rules}
 use Rattle.lists.proofs.Stores.{spends_part, spends_same, run_first, run_then}
 use Rattle.format.specs.Meta1.{prefix_length}
 use Rattle.emit.specs.Parts.{first_fields}

@@ -3,7 +3,6 @@ use Prim.Native.Nat.{◌+◌, ◌-◌}
 use mathlib.Core.Path.{◌≡◌, refl}
 use native.Mathlib.Omega.{arith}
 use lib.ListN.{length, replicate, length-replicate}
-use borrow.Author.Rules.{rules}
 use Rattle.lists.proofs.Stores.{spends_part, run_first, run_then}
 use Rattle.format.specs.Meta1.{prefix_length}
 use Rattle.emit.proofs.put_prefix.Goals as goal

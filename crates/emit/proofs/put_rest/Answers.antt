@@ -48,7 +48,7 @@ put_zeros-requires c =
     let second = third in
     let first = second in (
       omega (arith, z.requires, d.data_start-end.ensures),
-      omega (arith, z.requires, d.data_start-end.ensures, c.put_list-left-2.auto.image, second.put_list-left.auto.image, first.image.given),
+      omega (arith, z.requires, d.data_start-end.ensures, c.put_list-left-2.auto.image, second.put_list-left.auto.image, c.put_fixed-left.auto.image),
     )
 
 pub returns : goal.returns
@@ -60,8 +60,8 @@ returns c =
     let d = c in
     let a = c.args in
     let last = d.last_at-last.ensures in
-    rest_stored a.h (rank_of a.lists.now) (size_of a.lists.now) a.prefix.now a.budget a.image.now c.requires.1.0 c.requires.0.0
-    c.requires.1.1
+    rest_stored a.h (rank_of a.lists.now) (size_of a.lists.now) a.prefix.now a.budget a.image.now c.requires.prefix_len_bound c.requires.blocksize_value.0
+    c.requires.n_in_bounds
     d.data_start-end.ensures
     first.put_fixed-left.ensures
     second.put_list-left.ensures

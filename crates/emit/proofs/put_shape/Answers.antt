@@ -4,7 +4,6 @@ use Prim.Native.Nat.{ℕ}
 use native.Mathlib.Omega.{arith}
 use lib.ListN.{length, take, drop, replicate, length-drop, length-replicate}
 use lib.Seq.{length-take-le}
-use borrow.Author.Rules.{rules}
 use Rattle.endian.proofs.Number.{length_digits}
 use Rattle.lists.proofs.Splice.{splice_whole, put_first, put_then}
 use Rattle.emit.specs.Parts.{shape}
@@ -30,10 +29,10 @@ returns c =
     let flags : length (take 16 (drop 36 ys)) ≡ 16 = length-take-le 16 (drop 36 ys) (simp length-drop (omega (
       arith,
       z.requires,
-      fifth.fields-4-1.given,
-      fourth.fields-3-1.given,
-      third.fields-2-1.given,
-      second.fields.given,
+      c.put_u32-4.auto.s,
+      c.put_u32-3.auto.s,
+      c.put_u32-2.auto.s,
+      c.put_u32.auto.s,
     ))) in
     let cleared = splice_whole ys 36 (replicate 16 0) 16 (fifth.clear.ensures ∙ ap (λ (k : ℕ). replicate k 0) flags) (length-replicate {A = ℕ} 16 0) in
     (put_then xs 20 _ (replicate 16 0) 16 number (length-replicate {A = ℕ} 16 0) cleared (omega (arith, z.requires))).0

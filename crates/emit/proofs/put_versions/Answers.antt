@@ -2,7 +2,6 @@
 use mathlib.Core.Path.{refl, ◌∙◌}
 use native.Mathlib.Omega.{arith}
 use mir.Syntax.{w32}
-use borrow.Author.Rules.{rules}
 use Rattle.endian.specs.Number.{digits}
 use Rattle.endian.specs.Signed.{signed_digits}
 use Rattle.endian.proofs.Number.{length_digits}
