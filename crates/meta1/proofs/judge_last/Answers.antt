@@ -3,10 +3,8 @@ use mathlib.Core.Path.{◌≡◌, ap, ap₂, sym, ◌∙◌}
 use mathlib.Core.Bool.{true}
 use Prim.Native.Nat.{ℕ, ◌+◌, ◌≤◌, ◌<◌, ◌^◌}
 use native.Mathlib.Omega.{arith}
-use borrow.Author.Rules.{rules}
 use lib.IntN.{pos}
 use lib.ListN.{length}
-use Rattle.lists.proofs.Below.{test_fails, test_holds}
 use Rattle.endian.specs.Number.{number_at}
 use Rattle.endian.specs.Signed.{signed}
 use Rattle.format.specs.declared.fault.Verdict.{Verdict}
@@ -42,7 +40,7 @@ get_u64-start-requires c =
 
 pub returns-then-says-eq0 : goal.returns-then-says-eq0
 returns-then-says-eq0 c =
-    let start_at : c.get_u64-start.result.at ≡ start_at = (λ i. (c.get_u64-start.ensures i).at) ∙ ap (λ (at : ℕ). at + 4) c.last_at-at.ensures in
+    let start_here : c.get_u64-start.result.at ≡ start_at c.args.h.n = (λ i. (c.get_u64-start.ensures i).at) ∙ ap (λ (at : ℕ). at + 4) c.last_at-at.ensures in
     let read : let a = c.args in
     LastRead a.xs.now a.len a.h a.sizes.now c.get_u32-maxchunks.result.value c.get_u64-start.result.value = let l = c in
     let a = c.args in
@@ -57,7 +55,7 @@ returns-then-says-eq0 c =
     let t = c in
     let g = t in
     c.bad_start.ensures
-    ∙ (λ i. none (record { refusal = 10; fault = number_fault Kinds.start (start_at i) (signed 63 g.get_u64-start.result.value) 1 max_start }))
+    ∙ (λ i. none (record { refusal = 10; fault = number_fault Kinds.start (start_here i) (signed 63 g.get_u64-start.result.value) 1 max_start }))
     ∙ not_closed read t.if-says-eq0.true
 
 pub returns-then-not-maxchunks_ok : goal.returns-then-not-maxchunks_ok
@@ -83,11 +81,11 @@ returns-then-not-maxchunks_ok c =
       refusal = 11;
       fault = number_fault Kinds.maxchunks (maxchunks_at i) (signed 31 g.get_u32-maxchunks.result.value) 0 max_blocks;
     }))
-    ∙ bad_maxchunks read m.if-says-eq0.false (test_fails m.maxchunks_ok.ensures t.if-not-maxchunks_ok.true-raw)
+    ∙ bad_maxchunks read m.if-says-eq0.false (sym c.maxchunks_ok.ensures ∙ c.if-not-maxchunks_ok.true)
 
 pub meta2_start-place-requires : goal.meta2_start-place-requires
 meta2_start-place-requires c =
-    let counted : maxchunks_rule (pos c.get_u32-maxchunks.result.value) ≡ true = test_holds c.maxchunks_ok.ensures c.if-not-maxchunks_ok.false-raw in
+    let counted : maxchunks_rule (pos c.get_u32-maxchunks.result.value) ≡ true = sym c.maxchunks_ok.ensures ∙ c.if-not-maxchunks_ok.false in
     let g = c in
     (c.requires.sound, maxchunks_facts _ counted)
 
@@ -97,7 +95,7 @@ bad_start-requires-then-says-place c =
     let found : let g = c in
     let a = c.args in
     c.meta2_start-place.result ≡ meta2_at a.h (entry a.sizes.now) g.get_u32-maxchunks.result.value = c.meta2_start-place.ensures in
-    let counted : maxchunks_rule (pos c.get_u32-maxchunks.result.value) ≡ true = test_holds c.maxchunks_ok.ensures c.if-not-maxchunks_ok.false-raw in
+    let counted : maxchunks_rule (pos c.get_u32-maxchunks.result.value) ≡ true = sym c.maxchunks_ok.ensures ∙ c.if-not-maxchunks_ok.false in
     let small : c.meta2_start-place.result < 2 ^ 63 = let e = c in
     let g = e in
     omega (arith, found, meta2_end_small c.requires.sound _ (maxchunks_facts _ counted)) in
@@ -106,7 +104,7 @@ bad_start-requires-then-says-place c =
 pub returns-then-says-place : goal.returns-then-says-place
 unfolding meta2_at
 returns-then-says-place c =
-    let start_at : c.get_u64-start.result.at ≡ start_at = (λ i. (c.get_u64-start.ensures i).at) ∙ ap (λ (at : ℕ). at + 4) c.last_at-at.ensures in
+    let start_here : c.get_u64-start.result.at ≡ start_at c.args.h.n = (λ i. (c.get_u64-start.ensures i).at) ∙ ap (λ (at : ℕ). at + 4) c.last_at-at.ensures in
     let found : let g = c in
     let a = c.args in
     c.meta2_start-place.result ≡ meta2_at a.h (entry a.sizes.now) g.get_u32-maxchunks.result.value = c.meta2_start-place.ensures in
@@ -121,7 +119,7 @@ returns-then-says-place c =
       maxchunks_is = m ∙ ap (number_at (is_big a.h) 4 a.xs.now) l.last_at-at.ensures;
       start_is = first ∙ ap (λ (at : ℕ). number_at (is_big a.h) 8 a.xs.now (at + 4)) l.last_at-at.ensures;
     } in
-    let counted : maxchunks_rule (pos c.get_u32-maxchunks.result.value) ≡ true = test_holds c.maxchunks_ok.ensures c.if-not-maxchunks_ok.false-raw in
+    let counted : maxchunks_rule (pos c.get_u32-maxchunks.result.value) ≡ true = sym c.maxchunks_ok.ensures ∙ c.if-not-maxchunks_ok.false in
     let t = c in
     let s = t in
     let e = s in
@@ -129,13 +127,13 @@ returns-then-says-place c =
     c.bad_start-then-says-place.ensures
     ∙ (λ i. none (record {
       refusal = 12;
-      fault = number_fault Kinds.start (start_at i) (signed 63 g.get_u64-start.result.value) (found i) (found i);
+      fault = number_fault Kinds.start (start_here i) (signed 63 g.get_u64-start.result.value) (found i) (found i);
     }))
     ∙ start_wrong read e.if-says-eq0.false counted (λ d. t.if-says-place.true (d ∙ sym found))
 
 pub meta2_length-requires : goal.meta2_length-requires
 meta2_length-requires c =
-    let counted : maxchunks_rule (pos c.get_u32-maxchunks.result.value) ≡ true = test_holds c.maxchunks_ok.ensures c.if-not-maxchunks_ok.false-raw in
+    let counted : maxchunks_rule (pos c.get_u32-maxchunks.result.value) ≡ true = sym c.maxchunks_ok.ensures ∙ c.if-not-maxchunks_ok.false in
     let e = c in
     let g = e in
     (c.requires.sound.tasks, maxchunks_facts _ counted)
@@ -147,7 +145,7 @@ overflow_add-end c =
     let g = s in
     let a = c.args in
     c.meta2_start-place.result + c.meta2_length.result ≡ end_at a.h (entry a.sizes.now) g.get_u32-maxchunks.result.value = ap₂ (λ (x y : ℕ). x + y) c.meta2_start-place.ensures c.meta2_length.ensures in
-    let counted : maxchunks_rule (pos c.get_u32-maxchunks.result.value) ≡ true = test_holds c.maxchunks_ok.ensures c.if-not-maxchunks_ok.false-raw in
+    let counted : maxchunks_rule (pos c.get_u32-maxchunks.result.value) ≡ true = sym c.maxchunks_ok.ensures ∙ c.if-not-maxchunks_ok.false in
     let end_small : c.meta2_start-place.result + c.meta2_length.result < 2 ^ 63 = let e = c in
     let g = e in
     rw end (omega (arith, meta2_end_small c.requires.sound _ (maxchunks_facts _ counted))) in
@@ -160,7 +158,7 @@ not_as_needed-requires c =
     let g = s in
     let a = c.args in
     c.meta2_start-place.result + c.meta2_length.result ≡ end_at a.h (entry a.sizes.now) g.get_u32-maxchunks.result.value = ap₂ (λ (x y : ℕ). x + y) c.meta2_start-place.ensures c.meta2_length.ensures in
-    let counted : maxchunks_rule (pos c.get_u32-maxchunks.result.value) ≡ true = test_holds c.maxchunks_ok.ensures c.if-not-maxchunks_ok.false-raw in
+    let counted : maxchunks_rule (pos c.get_u32-maxchunks.result.value) ≡ true = sym c.maxchunks_ok.ensures ∙ c.if-not-maxchunks_ok.false in
     let end_small : c.meta2_start-place.result + c.meta2_length.result < 2 ^ 63 = let e = c in
     let g = e in
     rw end (omega (arith, meta2_end_small c.requires.sound _ (maxchunks_facts _ counted))) in
@@ -184,7 +182,7 @@ returns-then-len-end c =
       maxchunks_is = m ∙ ap (number_at (is_big a.h) 4 a.xs.now) l.last_at-at.ensures;
       start_is = first ∙ ap (λ (at : ℕ). number_at (is_big a.h) 8 a.xs.now (at + 4)) l.last_at-at.ensures;
     } in
-    let counted : maxchunks_rule (pos c.get_u32-maxchunks.result.value) ≡ true = test_holds c.maxchunks_ok.ensures c.if-not-maxchunks_ok.false-raw in
+    let counted : maxchunks_rule (pos c.get_u32-maxchunks.result.value) ≡ true = sym c.maxchunks_ok.ensures ∙ c.if-not-maxchunks_ok.false in
     let found : let g = c in
     let a = c.args in
     c.meta2_start-place.result ≡ meta2_at a.h (entry a.sizes.now) g.get_u32-maxchunks.result.value = c.meta2_start-place.ensures in
@@ -212,7 +210,7 @@ returns c =
       maxchunks_is = m ∙ ap (number_at (is_big a.h) 4 a.xs.now) l.last_at-at.ensures;
       start_is = first ∙ ap (λ (at : ℕ). number_at (is_big a.h) 8 a.xs.now (at + 4)) l.last_at-at.ensures;
     } in
-    let counted : maxchunks_rule (pos c.get_u32-maxchunks.result.value) ≡ true = test_holds c.maxchunks_ok.ensures c.if-not-maxchunks_ok.false-raw in
+    let counted : maxchunks_rule (pos c.get_u32-maxchunks.result.value) ≡ true = sym c.maxchunks_ok.ensures ∙ c.if-not-maxchunks_ok.false in
     let found : let g = c in
     let a = c.args in
     c.meta2_start-place.result ≡ meta2_at a.h (entry a.sizes.now) g.get_u32-maxchunks.result.value = c.meta2_start-place.ensures in

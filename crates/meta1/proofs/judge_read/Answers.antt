@@ -2,7 +2,6 @@
 use mathlib.Core.Path.{◌≡◌, ap, sym, ◌∙◌}
 use Prim.Native.Nat.{ℕ, suc, ◌+◌, ◌*◌, ◌≤◌}
 use native.Mathlib.Omega.{arith}
-use borrow.Author.Rules.{rules}
 use lib.IntN.{pos}
 use lib.ListN.{length}
 use Rattle.endian.specs.Signed.{signed_at}
@@ -11,7 +10,7 @@ use Rattle.format.specs.Limits.{max_size}
 use Rattle.format.specs.Layout.{meta1_end}
 use Rattle.format.specs.Record.{all_lists, is_big}
 use Rattle.format.specs.Refusals.{fault_of}
-use Rattle.format.proofs.Stripes.{length_ranks, length_sizes}
+use Rattle.format.proofs.Stripes.{length_ranks}
 use Rattle.meta1.proofs.Answers.{read_long, bad_rank, bad_size_refused, lists_pass}
 use Rattle.meta1.proofs.judge_read.Goals as goal
 
@@ -39,6 +38,11 @@ returns-then-rank-n c =
     let r = t in
     let s = c in
     c.bad_entry.ensures ∙ bad_rank s.requires.0 s.requires.1 r.first_bad_rank-rank.ensures t.if-rank-n.true
+
+pub slice_bounds-sizes-end : goal.slice_bounds-sizes-end
+slice_bounds-sizes-end c =
+    let long : length c.args.lists.now ≡ all_lists = read_long c.requires.0 c.requires.1 in
+    omega (arith, long)
 
 pub bad_entry-requires-then-size-n : goal.bad_entry-requires-then-size-n
 unfolding meta1_end
