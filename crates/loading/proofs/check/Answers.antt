@@ -33,12 +33,12 @@ not_as_needed-requires c =
     let lists : List ℕ = c.judge_lists-last.new.lists in
     let passed : let a = c.args in
     first_failing (fixed_tests a.image.now a.file (length a.image.now)) ≡ 0 = fixed_passed _ _ c.judge_fixed-one.ensures c.if-one-ne0.false in
-    let head : let f = c in
-    let image = c.args.image.now in
-    HeadRead image (length image) f.judge_fixed-one.result.head = read _ _ c.judge_fixed-one.ensures c.if-one-ne0.false in
-    let known : let f = c in
-    Found c.args.file c.args.image.now f.judge_fixed-one.result.head c.judge_lists-last.result lists = found passed head c.judge_lists-last.ensures.value c.judge_lists-last.ensures.lists_after c.if-last-ne0.false in
-    let table_small : c.judge_fixed-one.result.head.n * c.judge_lists-last.result.maxchunks ≤ max_tasks * max_blocks = let f = known in mul-le-mul (sound f).tasks (few f) in
+    let head : let image = c.args.image.now in
+    HeadRead image (length image) c.judge_fixed-one.result.head = read _ _ c.judge_fixed-one.ensures c.if-one-ne0.false in
+    let known : Found c.args.file c.args.image.now c.judge_fixed-one.result.head c.judge_lists-last.result lists =
+    found passed head c.judge_lists-last.ensures.value c.judge_lists-last.ensures.lists_after c.if-last-ne0.false in
+    let table_small : c.judge_fixed-one.result.head.n * c.judge_lists-last.result.maxchunks ≤ max_tasks * max_blocks =
+    let f = known in mul-le-mul (sound f).tasks (few f) in
     let l = table_small in (omega arith, omega arith)
 
 pub returns-then-cells-needed : goal.returns-then-cells-needed
@@ -48,7 +48,8 @@ returns-then-cells-needed c =
     first_failing (fixed_tests a.image.now a.file (length a.image.now)) ≡ 0 = fixed_passed _ _ c.judge_fixed-one.ensures c.if-one-ne0.false in
     let head : let image = c.args.image.now in
     HeadRead image (length image) c.judge_fixed-one.result.head = read _ _ c.judge_fixed-one.ensures c.if-one-ne0.false in
-    let known : Found c.args.file c.args.image.now c.judge_fixed-one.result.head c.judge_lists-last.result lists = found passed head c.judge_lists-last.ensures.value c.judge_lists-last.ensures.lists_after c.if-last-ne0.false in
+    let known : Found c.args.file c.args.image.now c.judge_fixed-one.result.head c.judge_lists-last.result lists =
+    found passed head c.judge_lists-last.ensures.value c.judge_lists-last.ensures.lists_after c.if-last-ne0.false in
     c.no_container-then-cells-needed.ensures ∙ (λ i. refused_by (c.not_as_needed.ensures i)) ∙ refused_table known c.if-cells-needed.true
 
 pub meta2_length-requires : goal.meta2_length-requires
@@ -56,11 +57,10 @@ meta2_length-requires c =
     let lists : List ℕ = c.judge_lists-last.new.lists in
     let passed : let a = c.args in
     first_failing (fixed_tests a.image.now a.file (length a.image.now)) ≡ 0 = fixed_passed _ _ c.judge_fixed-one.ensures c.if-one-ne0.false in
-    let head : let f = c in
-    let image = c.args.image.now in
-    HeadRead image (length image) f.judge_fixed-one.result.head = read _ _ c.judge_fixed-one.ensures c.if-one-ne0.false in
-    let known : let f = c in
-    Found c.args.file c.args.image.now f.judge_fixed-one.result.head c.judge_lists-last.result lists = found passed head c.judge_lists-last.ensures.value c.judge_lists-last.ensures.lists_after c.if-last-ne0.false in
+    let head : let image = c.args.image.now in
+    HeadRead image (length image) c.judge_fixed-one.result.head = read _ _ c.judge_fixed-one.ensures c.if-one-ne0.false in
+    let known : Found c.args.file c.args.image.now c.judge_fixed-one.result.head c.judge_lists-last.result lists =
+    found passed head c.judge_lists-last.ensures.value c.judge_lists-last.ensures.lists_after c.if-last-ne0.false in
     let f = known in ((sound f).tasks, few f)
 
 pub overflow_add-end : goal.overflow_add-end
@@ -70,7 +70,8 @@ overflow_add-end c =
     first_failing (fixed_tests a.image.now a.file (length a.image.now)) ≡ 0 = fixed_passed _ _ c.judge_fixed-one.ensures c.if-one-ne0.false in
     let head : let image = c.args.image.now in
     HeadRead image (length image) c.judge_fixed-one.result.head = read _ _ c.judge_fixed-one.ensures c.if-one-ne0.false in
-    let known : Found c.args.file c.args.image.now c.judge_fixed-one.result.head c.judge_lists-last.result lists = found passed head c.judge_lists-last.ensures.value c.judge_lists-last.ensures.lists_after c.if-last-ne0.false in
+    let known : Found c.args.file c.args.image.now c.judge_fixed-one.result.head c.judge_lists-last.result lists =
+    found passed head c.judge_lists-last.ensures.value c.judge_lists-last.ensures.lists_after c.if-last-ne0.false in
     let short : length c.args.image.now < 2 ^ 64 = search rules in
     omega (arith, fits known, c.meta2_length.ensures, short)
 
@@ -81,7 +82,8 @@ slice_bounds-judge-end c =
     first_failing (fixed_tests a.image.now a.file (length a.image.now)) ≡ 0 = fixed_passed _ _ c.judge_fixed-one.ensures c.if-one-ne0.false in
     let head : let image = c.args.image.now in
     HeadRead image (length image) c.judge_fixed-one.result.head = read _ _ c.judge_fixed-one.ensures c.if-one-ne0.false in
-    let known : Found c.args.file c.args.image.now c.judge_fixed-one.result.head c.judge_lists-last.result lists = found passed head c.judge_lists-last.ensures.value c.judge_lists-last.ensures.lists_after c.if-last-ne0.false in
+    let known : Found c.args.file c.args.image.now c.judge_fixed-one.result.head c.judge_lists-last.result lists =
+    found passed head c.judge_lists-last.ensures.value c.judge_lists-last.ensures.lists_after c.if-last-ne0.false in
     omega (arith, fits known, c.meta2_length.ensures)
 
 pub judge-two-requires : goal.judge-two-requires
@@ -91,7 +93,8 @@ judge-two-requires c =
     first_failing (fixed_tests a.image.now a.file (length a.image.now)) ≡ 0 = fixed_passed _ _ c.judge_fixed-one.ensures c.if-one-ne0.false in
     let head : let image = c.args.image.now in
     HeadRead image (length image) c.judge_fixed-one.result.head = read _ _ c.judge_fixed-one.ensures c.if-one-ne0.false in
-    let known : Found c.args.file c.args.image.now c.judge_fixed-one.result.head c.judge_lists-last.result lists = found passed head c.judge_lists-last.ensures.value c.judge_lists-last.ensures.lists_after c.if-last-ne0.false in
+    let known : Found c.args.file c.args.image.now c.judge_fixed-one.result.head c.judge_lists-last.result lists =
+    found passed head c.judge_lists-last.ensures.value c.judge_lists-last.ensures.lists_after c.if-last-ne0.false in
     let short : length c.args.image.now < 2 ^ 64 = search rules in
     there known c.meta2_length.ensures short
 
@@ -102,7 +105,8 @@ returns-then-two-ne0 c =
     first_failing (fixed_tests a.image.now a.file (length a.image.now)) ≡ 0 = fixed_passed _ _ c.judge_fixed-one.ensures c.if-one-ne0.false in
     let head : let image = c.args.image.now in
     HeadRead image (length image) c.judge_fixed-one.result.head = read _ _ c.judge_fixed-one.ensures c.if-one-ne0.false in
-    let known : Found c.args.file c.args.image.now c.judge_fixed-one.result.head c.judge_lists-last.result lists = found passed head c.judge_lists-last.ensures.value c.judge_lists-last.ensures.lists_after c.if-last-ne0.false in
+    let known : Found c.args.file c.args.image.now c.judge_fixed-one.result.head c.judge_lists-last.result lists =
+    found passed head c.judge_lists-last.ensures.value c.judge_lists-last.ensures.lists_after c.if-last-ne0.false in
     c.no_container-then-two-ne0.ensures
     ∙ refused_meta2 known c.meta2_length.ensures c.if-cells-needed.false c.judge-two.ensures.value c.if-two-ne0.true
 
@@ -113,5 +117,6 @@ returns c =
     first_failing (fixed_tests a.image.now a.file (length a.image.now)) ≡ 0 = fixed_passed _ _ c.judge_fixed-one.ensures c.if-one-ne0.false in
     let head : let image = c.args.image.now in
     HeadRead image (length image) c.judge_fixed-one.result.head = read _ _ c.judge_fixed-one.ensures c.if-one-ne0.false in
-    let known : Found c.args.file c.args.image.now c.judge_fixed-one.result.head c.judge_lists-last.result lists = found passed head c.judge_lists-last.ensures.value c.judge_lists-last.ensures.lists_after c.if-last-ne0.false in
+    let known : Found c.args.file c.args.image.now c.judge_fixed-one.result.head c.judge_lists-last.result lists =
+    found passed head c.judge_lists-last.ensures.value c.judge_lists-last.ensures.lists_after c.if-last-ne0.false in
     accepted known c.meta2_length.ensures c.if-cells-needed.false c.judge-two.ensures.value c.if-two-ne0.false c.judge-two.ensures.lists_after

@@ -17,13 +17,15 @@ use Rattle.loading.proofs.fill.Goals as goal
 pub overflow_add-end : goal.overflow_add-end
 unfolding end_at meta2_end
 overflow_add-end c =
-    let inside : c.meta2_start-start.result + c.meta2_length.result ≤ length c.args.image.now = omega (arith, c.requires.image_long, c.meta2_start-start.ensures, c.meta2_length.ensures) in
+    let inside : c.meta2_start-start.result + c.meta2_length.result ≤ length c.args.image.now =
+    omega (arith, c.requires.image_long, c.meta2_start-start.ensures, c.meta2_length.ensures) in
     omega (arith, inside)
 
 pub slice_bounds-fill-end : goal.slice_bounds-fill-end
 unfolding end_at meta2_end
 slice_bounds-fill-end c =
-    let inside : c.meta2_start-start.result + c.meta2_length.result ≤ length c.args.image.now = omega (arith, c.requires.image_long, c.meta2_start-start.ensures, c.meta2_length.ensures) in
+    let inside : c.meta2_start-start.result + c.meta2_length.result ≤ length c.args.image.now =
+    omega (arith, c.requires.image_long, c.meta2_start-start.ensures, c.meta2_length.ensures) in
     omega (arith, inside)
 
 pub fill-requires : goal.fill-requires
@@ -31,7 +33,8 @@ unfolding end_at meta2_end
 fill-requires c =
     let part : List ℕ = let at = c.meta2_start-start.result in
     take (at + c.meta2_length.result - at) (drop at c.args.image.now) in
-    let inside : c.meta2_start-start.result + c.meta2_length.result ≤ length c.args.image.now = omega (arith, c.requires.image_long, c.meta2_start-start.ensures, c.meta2_length.ensures) in
+    let inside : c.meta2_start-start.result + c.meta2_length.result ≤ length c.args.image.now =
+    omega (arith, c.requires.image_long, c.meta2_start-start.ensures, c.meta2_length.ensures) in
     let part_long : length part ≡ meta2_length c.args.h.n c.args.maxchunks = let at = c.meta2_start-start.result in
     let same : at + c.meta2_length.result - at ≡ c.meta2_length.result = omega arith in
     length-take-le (at + c.meta2_length.result - at) (drop at c.args.image.now) (simp length-drop (omega (arith, inside)))

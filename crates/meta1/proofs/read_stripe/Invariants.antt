@@ -8,7 +8,10 @@ use Rattle.lists.specs.Splice.{splice}
 use Rattle.meta1.proofs.read_stripe.Given as goal
 
 abbrev pub invariant-loop-i : goal.invariant-loop-i
-invariant-loop-i l = (l.i ≤ l.n) × (length l.lists ≡ length l.initial.lists) × (l.lists ≡ splice l.initial.lists l.at (list_below l.i (λ j. number_at l.big 8 l.xs (l.from + 8 * j))))
+invariant-loop-i l =
+    (l.i ≤ l.n)
+    × (length l.lists ≡ length l.initial.lists)
+    × (l.lists ≡ splice l.initial.lists l.at (list_below l.i (λ j. number_at l.big 8 l.xs (l.from + 8 * j))))
 
 abbrev pub decreases-loop-i : goal.decreases-loop-i
 decreases-loop-i l = l.n - l.i

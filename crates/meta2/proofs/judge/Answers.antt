@@ -20,7 +20,8 @@ unfolding with_counts
 judge_read-requires c =
     let count : ℕ → ℕ = λ i. number_at (is_big c.args.h) 8 c.args.part.now (8 * i) in
     let counted : c.read_stripe.new.lists ≡ with_counts c.args.lists.now c.args.h.n count = simp zero-add at c.read_stripe.ensures in
-    let sizes_same : sizes_of c.read_stripe.new.lists ≡ sizes_of c.args.lists.now = ap sizes_of counted ∙ sizes_counted _ c.args.h.n count c.requires.sound.tasks c.requires.as_many in
+    let sizes_same : sizes_of c.read_stripe.new.lists ≡ sizes_of c.args.lists.now =
+    ap sizes_of counted ∙ sizes_counted _ c.args.h.n count c.requires.sound.tasks c.requires.as_many in
     let read : let a = c.args in
     CountsRead a.part.now a.at a.h a.maxchunks c.read_stripe.new.lists = let n = c.args.h.n in
     record {
@@ -40,7 +41,8 @@ unfolding with_counts
 returns-clause-value c =
     let count : ℕ → ℕ = λ i. number_at (is_big c.args.h) 8 c.args.part.now (8 * i) in
     let counted : c.read_stripe.new.lists ≡ with_counts c.args.lists.now c.args.h.n count = simp zero-add at c.read_stripe.ensures in
-    let sizes_same : sizes_of c.read_stripe.new.lists ≡ sizes_of c.args.lists.now = ap sizes_of counted ∙ sizes_counted _ c.args.h.n count c.requires.sound.tasks c.requires.as_many in
+    let sizes_same : sizes_of c.read_stripe.new.lists ≡ sizes_of c.args.lists.now =
+    ap sizes_of counted ∙ sizes_counted _ c.args.h.n count c.requires.sound.tasks c.requires.as_many in
     rw (← sizes_same) c.judge_read.ensures
 
 pub returns-clause-lists_after : goal.returns-clause-lists_after
@@ -48,5 +50,6 @@ unfolding with_counts
 returns-clause-lists_after c =
     let count : ℕ → ℕ = λ i. number_at (is_big c.args.h) 8 c.args.part.now (8 * i) in
     let counted : c.read_stripe.new.lists ≡ with_counts c.args.lists.now c.args.h.n count = simp zero-add at c.read_stripe.ensures in
-    let sizes_same : sizes_of c.read_stripe.new.lists ≡ sizes_of c.args.lists.now = ap sizes_of counted ∙ sizes_counted _ c.args.h.n count c.requires.sound.tasks c.requires.as_many in
+    let sizes_same : sizes_of c.read_stripe.new.lists ≡ sizes_of c.args.lists.now =
+    ap sizes_of counted ∙ sizes_counted _ c.args.h.n count c.requires.sound.tasks c.requires.as_many in
     counted

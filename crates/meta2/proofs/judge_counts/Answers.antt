@@ -108,7 +108,8 @@ bad_count-requires c =
 pub returns-then-count-n : goal.returns-then-count-n
 returns-then-count-n c =
     let searched : let a = c.args in
-    c.first_outside-count.result ≡ first_not a.h.n (λ j. within (least_count a.h.format) a.maxchunks (pos (count_of a.lists.now j))) = rw c.least_count-least.ensures at c.first_outside-count.ensures in
+    c.first_outside-count.result ≡ first_not a.h.n (λ j. within (least_count a.h.format) a.maxchunks (pos (count_of a.lists.now j))) =
+    rw c.least_count-least.ensures at c.first_outside-count.ensures in
     let a = c.args in
     let i = c.first_outside-count.result in
     c.bad_count.ensures
@@ -123,14 +124,16 @@ returns-then-count-n c =
 pub not_as_needed-requires : goal.not_as_needed-requires
 not_as_needed-requires c =
     let searched : let a = c.args in
-    c.first_outside-count.result ≡ first_not a.h.n (λ j. within (least_count a.h.format) a.maxchunks (pos (count_of a.lists.now j))) = rw c.least_count-least.ensures at c.first_outside-count.ensures in
+    c.first_outside-count.result ≡ first_not a.h.n (λ j. within (least_count a.h.format) a.maxchunks (pos (count_of a.lists.now j))) =
+    rw c.least_count-least.ensures at c.first_outside-count.ensures in
     let top = few_chunks c.requires searched c.if-count-n.false in
     (omega (arith, c.requires.there.small), omega (arith, top, c.greatest-most.ensures, c.requires.there.small))
 
 pub returns-then-most-maxchunks : goal.returns-then-most-maxchunks
 returns-then-most-maxchunks c =
     let searched : let a = c.args in
-    c.first_outside-count.result ≡ first_not a.h.n (λ j. within (least_count a.h.format) a.maxchunks (pos (count_of a.lists.now j))) = rw c.least_count-least.ensures at c.first_outside-count.ensures in
+    c.first_outside-count.result ≡ first_not a.h.n (λ j. within (least_count a.h.format) a.maxchunks (pos (count_of a.lists.now j))) =
+    rw c.least_count-least.ensures at c.first_outside-count.ensures in
     let most = c.greatest-most.result in
     c.not_as_needed.ensures
     ∙ (λ x. record { refusal = 13; fault = number_fault Kinds.maxchunks (c.last_at-place.ensures x) (pos c.args.maxchunks) most most })
@@ -139,5 +142,6 @@ returns-then-most-maxchunks c =
 pub returns : goal.returns
 returns c =
     let searched : let a = c.args in
-    c.first_outside-count.result ≡ first_not a.h.n (λ j. within (least_count a.h.format) a.maxchunks (pos (count_of a.lists.now j))) = rw c.least_count-least.ensures at c.first_outside-count.ensures in
+    c.first_outside-count.result ≡ first_not a.h.n (λ j. within (least_count a.h.format) a.maxchunks (pos (count_of a.lists.now j))) =
+    rw c.least_count-least.ensures at c.first_outside-count.ensures in
     c.passes.ensures ∙ counts_pass c.requires searched c.if-count-n.false c.greatest-most.ensures c.if-most-maxchunks.false

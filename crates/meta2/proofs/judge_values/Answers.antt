@@ -36,7 +36,8 @@ returns-then-row-ne0 c =
     c.judge_row-row.ensures ∙ row_verdict a.h (size_of a.lists.now) a.maxchunks a.part.now a.at c.loop-k.k in
     let all_values : let a = c.args in
     verdict (value_tests a.h (size_of a.lists.now) a.maxchunks a.at a.part.now)
-    ≡ cond (all_below a.maxchunks (Kept)) passed (Broken (first_not a.maxchunks (Kept))) = let a = c.args in values_verdict a.h (size_of a.lists.now) a.maxchunks a.part.now a.at in
+    ≡ cond (all_below a.maxchunks (Kept)) passed (Broken (first_not a.maxchunks (Kept))) =
+    let a = c.args in values_verdict a.h (size_of a.lists.now) a.maxchunks a.part.now a.at in
     let k = c.loop-k.k in
     let broken = refused_broken (Broken k) (Kept k) judged c.if-row-ne0.true in
     let first = first_at (Kept) k c.args.maxchunks c.loop-k-test.true c.loop-k.invariant.1 broken in
@@ -59,7 +60,8 @@ returns c =
     let Broken : ℕ → Verdict = let a = c.args in broken_in a.h (size_of a.lists.now) a.maxchunks a.part.now a.at in
     let all_values : let a = c.args in
     verdict (value_tests a.h (size_of a.lists.now) a.maxchunks a.at a.part.now)
-    ≡ cond (all_below a.maxchunks (Kept)) passed (Broken (first_not a.maxchunks (Kept))) = let a = c.args in values_verdict a.h (size_of a.lists.now) a.maxchunks a.part.now a.at in
+    ≡ cond (all_below a.maxchunks (Kept)) passed (Broken (first_not a.maxchunks (Kept))) =
+    let a = c.args in values_verdict a.h (size_of a.lists.now) a.maxchunks a.part.now a.at in
     let l = c.loop-k in
     let all = sym (all_end (Kept) l.invariant.0 c.loop-k-test.false l.invariant.1) in
     c.passes.ensures ∙ sym (all_values ∙ rw all)
