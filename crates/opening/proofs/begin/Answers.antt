@@ -66,7 +66,6 @@ pub returns-clause-value : goal.returns-clause-value
 unfolding open_session open_head open_lists
 returns-clause-value c =
     let given : Opening = let a = c.args in opening_of a.file a.plan a.ranks.now a.sizes.now a.prefix.now in
-    let known : OpeningHolds given (length c.args.image.now) (length c.args.table.now) = opening_holds _ _ _ c.requires in
     let made : c.lists_of-lists.result ≡ open_lists given =
     let a = c.args in
     c.lists_of-lists.ensures

@@ -4,7 +4,7 @@ use mathlib.Core.Path.{◌≡◌}
 use native.Mathlib.Nat.{zero-add}
 use native.Mathlib.Omega.{arith}
 use lib.IntN.{pos}
-use lib.ListN.{replicate, length-replicate}
+use lib.ListN.{length, replicate, length-replicate}
 use Rattle.lists.proofs.Splice.{put_first, put_then}
 use Rattle.format.specs.Meta2.{unused}
 use Rattle.format.specs.Open.{blank_cells}
@@ -18,12 +18,10 @@ parts n begun planned fits = blank_parts begun n planned fits
 pub returns : goal.returns
 unfolding blank_cells
 returns c =
-    let second = c in
-    let first = second in
-    let s = c in
-    let a = s.args in
+    let a = c.args in
     let xs = a.table.now in
     let begun : ℕ = a.n * a.begun in
     let others : ℕ = a.n * (a.planned - a.begun) in
-    let zeros = put_first xs 0 (replicate begun (pos 0)) begun (length-replicate begun (pos 0)) first.mark_begun.ensures in
-    (put_then xs 0 _ (replicate others unused) others (rw zero-add at zeros) (length-replicate others unused) second.mark_unused.ensures (omega (arith, parts a.n a.begun a.planned s.requires.1, s.requires))).0
+    let zeros = put_first xs 0 (replicate begun (pos 0)) begun (length-replicate begun (pos 0)) c.mark_begun.ensures in
+    let fits : begun + others ≤ length xs = omega (arith, parts a.n a.begun a.planned c.requires.1, c.requires) in
+    (put_then xs 0 _ (replicate others unused) others (rw zero-add at zeros) (length-replicate others unused) c.mark_unused.ensures fits).0

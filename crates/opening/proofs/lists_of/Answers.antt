@@ -15,16 +15,12 @@ returns c =
     let ranked : let a = c.args in
     c.put_stripe.new.lists ≡ splice no_lists 0 (list_below (length a.ranks.now) (entry a.ranks.now)) = c.put_stripe.ensures in
     let sized : let a = c.args in
-    c.put_stripe-2.new.lists ≡ lists_of (length a.ranks.now) (entry a.ranks.now) (entry a.sizes.now) (λ i. 0) = let r = c in
-    let s = c in
-    let a = s.args in
+    c.put_stripe-2.new.lists ≡ lists_of (length a.ranks.now) (entry a.ranks.now) (entry a.sizes.now) (λ i. 0) = let a = c.args in
     c.put_stripe-2.ensures
-    ∙ ap₂ (λ (lists : List ℕ) (n : ℕ). splice lists max_tasks (list_below n (entry a.sizes.now))) ranked s.requires.1
-    ∙ lists_put (length a.ranks.now) (entry a.ranks.now) (entry a.sizes.now) s.requires.0 in
-    let z = c in
-    let s = c in
-    let a = s.args in
+    ∙ ap₂ (λ (lists : List ℕ) (n : ℕ). splice lists max_tasks (list_below n (entry a.sizes.now))) ranked c.requires.1
+    ∙ lists_put (length a.ranks.now) (entry a.ranks.now) (entry a.sizes.now) c.requires.0 in
+    let a = c.args in
     let n = length a.ranks.now in
     c.put_counts.ensures
     ∙ ap (λ (lists : List ℕ). with_counts lists n (λ i. a.begun)) sized
-    ∙ counts_put n (entry a.ranks.now) (entry a.sizes.now) s.requires.0 (λ i. a.begun)
+    ∙ counts_put n (entry a.ranks.now) (entry a.sizes.now) c.requires.0 (λ i. a.begun)

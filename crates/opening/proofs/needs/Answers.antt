@@ -18,8 +18,7 @@ refused o r e some =
 pub returns-then-shape-ne0 : goal.returns-then-shape-ne0
 returns-then-shape-ne0 c =
     let given : Opening = let a = c.args in opening_of Single a.plan a.ranks.now a.sizes.now a.prefix.now in
-    let r = c in
-    let e = r.shape_refusal-shape.ensures in
+    let e = c.shape_refusal-shape.ensures in
     c.no_need.ensures
     ∙ refused given _ (e ∙ sym (plan_shape given (omega (arith, e, c.if-shape-ne0.true)))) (omega (arith, c.if-shape-ne0.true))
 
@@ -29,16 +28,15 @@ number_refusal-number-requires c = omega (arith, shape_listed _ _ _ _ _ _ (sym c
 pub returns-then-number-ne0 : goal.returns-then-number-ne0
 returns-then-number-ne0 c =
     let given : Opening = let a = c.args in opening_of Single a.plan a.ranks.now a.sizes.now a.prefix.now in
-    let shaped : first_failing (plan_tests given) ≡ c.number_refusal-number.result = let r = c in
-    plan_number given (sym r.shape_refusal-shape.ensures ∙ c.if-shape-ne0.false) ∙ sym c.number_refusal-number.ensures in
-    let n = c in
+    let shaped : first_failing (plan_tests given) ≡ c.number_refusal-number.result =
+    plan_number given (sym c.shape_refusal-shape.ensures ∙ c.if-shape-ne0.false) ∙ sym c.number_refusal-number.ensures in
     c.no_need-then-number-ne0.ensures ∙ refused given _ (sym shaped) (omega (arith, c.if-number-ne0.true))
 
 pub overflow_cast-n : goal.overflow_cast-n
 overflow_cast-n c =
     let given : Opening = let a = c.args in opening_of Single a.plan a.ranks.now a.sizes.now a.prefix.now in
-    let shaped : first_failing (plan_tests given) ≡ c.number_refusal-number.result = let r = c in
-    plan_number given (sym r.shape_refusal-shape.ensures ∙ c.if-shape-ne0.false) ∙ sym c.number_refusal-number.ensures in
+    let shaped : first_failing (plan_tests given) ≡ c.number_refusal-number.result =
+    plan_number given (sym c.shape_refusal-shape.ensures ∙ c.if-shape-ne0.false) ∙ sym c.number_refusal-number.ensures in
     let passes : first_failing (plan_tests given) ≡ 0 = shaped ∙ c.if-number-ne0.false in
     let known : PlanHolds given = plan_holds _ passes in
     omega (arith, known.few_tasks)
@@ -46,8 +44,8 @@ overflow_cast-n c =
 pub meta2_end-image-requires : goal.meta2_end-image-requires
 meta2_end-image-requires c =
     let given : Opening = let a = c.args in opening_of Single a.plan a.ranks.now a.sizes.now a.prefix.now in
-    let shaped : first_failing (plan_tests given) ≡ c.number_refusal-number.result = let r = c in
-    plan_number given (sym r.shape_refusal-shape.ensures ∙ c.if-shape-ne0.false) ∙ sym c.number_refusal-number.ensures in
+    let shaped : first_failing (plan_tests given) ≡ c.number_refusal-number.result =
+    plan_number given (sym c.shape_refusal-shape.ensures ∙ c.if-shape-ne0.false) ∙ sym c.number_refusal-number.ensures in
     let passes : first_failing (plan_tests given) ≡ 0 = shaped ∙ c.if-number-ne0.false in
     let known : PlanHolds given = plan_holds _ passes in
     (plan_sound _ known, known.few)
@@ -55,20 +53,17 @@ meta2_end-image-requires c =
 pub overflow_mul-result : goal.overflow_mul-result
 overflow_mul-result c =
     let given : Opening = let a = c.args in opening_of Single a.plan a.ranks.now a.sizes.now a.prefix.now in
-    let shaped : first_failing (plan_tests given) ≡ c.number_refusal-number.result = let r = c in
-    plan_number given (sym r.shape_refusal-shape.ensures ∙ c.if-shape-ne0.false) ∙ sym c.number_refusal-number.ensures in
+    let shaped : first_failing (plan_tests given) ≡ c.number_refusal-number.result =
+    plan_number given (sym c.shape_refusal-shape.ensures ∙ c.if-shape-ne0.false) ∙ sym c.number_refusal-number.ensures in
     let passes : first_failing (plan_tests given) ≡ 0 = shaped ∙ c.if-number-ne0.false in
     let known : PlanHolds given = plan_holds _ passes in
-    let k = known in
-    omega (arith, mul-le-mul k.few_tasks k.few)
+    omega (arith, mul-le-mul known.few_tasks known.few)
 
 pub returns : goal.returns
 returns c =
     let given : Opening = let a = c.args in opening_of Single a.plan a.ranks.now a.sizes.now a.prefix.now in
-    let shaped : first_failing (plan_tests given) ≡ c.number_refusal-number.result = let r = c in
-    plan_number given (sym r.shape_refusal-shape.ensures ∙ c.if-shape-ne0.false) ∙ sym c.number_refusal-number.ensures in
+    let shaped : first_failing (plan_tests given) ≡ c.number_refusal-number.result =
+    plan_number given (sym c.shape_refusal-shape.ensures ∙ c.if-shape-ne0.false) ∙ sym c.number_refusal-number.ensures in
     let passes : first_failing (plan_tests given) ≡ 0 = shaped ∙ c.if-number-ne0.false in
-    let e = c in
-    let o = given in
-    ap (λ (end : ℕ). record { refusal = 0; image = end; cells = length o.ranks * o.plan.planned }) c.meta2_end-image.ensures
-    ∙ sym (needs_lengths o passes)
+    ap (λ (end : ℕ). record { refusal = 0; image = end; cells = length given.ranks * given.plan.planned }) c.meta2_end-image.ensures
+    ∙ sym (needs_lengths given passes)

@@ -19,9 +19,8 @@ returns-then-not-sizes_ok c =
 pub returns-then-not-planned_ok : goal.returns-then-not-planned_ok
 unfolding first_failing number_tests
 returns-then-not-planned_ok c =
-    let s = c in
     rw (
-      test_holds s.ranks_ok.ensures s.if-not-ranks_ok.false-raw,
+      test_holds c.ranks_ok.ensures c.if-not-ranks_ok.false-raw,
       test_holds c.sizes_ok.ensures c.if-not-sizes_ok.false-raw,
       test_fails c.planned_ok.ensures c.if-not-planned_ok.true-raw,
     )
@@ -29,9 +28,8 @@ returns-then-not-planned_ok c =
 pub returns : goal.returns
 unfolding first_failing number_tests
 returns c =
-    let s = c in
     rw (
-      test_holds s.ranks_ok.ensures s.if-not-ranks_ok.false-raw,
+      test_holds c.ranks_ok.ensures c.if-not-ranks_ok.false-raw,
       test_holds c.sizes_ok.ensures c.if-not-sizes_ok.false-raw,
       test_holds c.planned_ok.ensures c.if-not-planned_ok.false-raw,
     )

@@ -27,31 +27,19 @@ module _ (o : Opening) (image cells : ℕ) (r : Needed) (e : r ≡ needs_answer 
 pub returns-then-needed-ne0 : goal.returns-then-needed-ne0
 returns-then-needed-ne0 c =
     let given : Opening = let a = c.args in opening_of Single a.plan a.ranks.now a.sizes.now a.prefix.now in
-    let n = c in
-    let s = c in
-    refused given s.args.image s.args.cells _ n.needs-needed.ensures (omega (arith, c.if-needed-ne0.true))
+    refused given c.args.image c.args.cells _ c.needs-needed.ensures (omega (arith, c.if-needed-ne0.true))
 
 pub returns-then-image-needed : goal.returns-then-image-needed
 returns-then-image-needed c =
     let given : Opening = let a = c.args in opening_of Single a.plan a.ranks.now a.sizes.now a.prefix.now in
-    let e = c in
-    let n = e in
-    let s = c in
-    short given s.args.image s.args.cells _ n.needs-needed.ensures e.if-needed-ne0.false (inl c.if-image-needed.true)
+    short given c.args.image c.args.cells _ c.needs-needed.ensures c.if-needed-ne0.false (inl c.if-image-needed.true)
 
 pub returns-then-cells-needed : goal.returns-then-cells-needed
 returns-then-cells-needed c =
     let given : Opening = let a = c.args in opening_of Single a.plan a.ranks.now a.sizes.now a.prefix.now in
-    let e = c in
-    let n = e in
-    let s = c in
-    short given s.args.image s.args.cells _ n.needs-needed.ensures e.if-needed-ne0.false (inr c.if-cells-needed.true)
+    short given c.args.image c.args.cells _ c.needs-needed.ensures c.if-needed-ne0.false (inr c.if-cells-needed.true)
 
 pub returns : goal.returns
 returns c =
     let given : Opening = let a = c.args in opening_of Single a.plan a.ranks.now a.sizes.now a.prefix.now in
-    let l = c in
-    let e = l in
-    let n = e in
-    let s = c in
-    enough given s.args.image s.args.cells _ n.needs-needed.ensures e.if-needed-ne0.false l.if-image-needed.false c.if-cells-needed.false
+    enough given c.args.image c.args.cells _ c.needs-needed.ensures c.if-needed-ne0.false c.if-image-needed.false c.if-cells-needed.false

@@ -14,60 +14,47 @@ returns-then-order-gt1 c = rw (lt-leb c.args.order 1 c.if-order-gt1.true)
 
 pub returns-then-not-format_ok : goal.returns-then-not-format_ok
 unfolding first_failing shape_tests
-returns-then-not-format_ok c =
-    let s = c in
-    rw (le-leb s.args.order 1 s.if-order-gt1.false, test_fails c.format_ok.ensures c.if-not-format_ok.true-raw)
+returns-then-not-format_ok c = rw (le-leb c.args.order 1 c.if-order-gt1.false, test_fails c.format_ok.ensures c.if-not-format_ok.true-raw)
 
 pub returns-then-not-blocksize_ok : goal.returns-then-not-blocksize_ok
 unfolding first_failing shape_tests
 returns-then-not-blocksize_ok c =
-    let f = c in
-    let s = f in
     rw (
-      le-leb s.args.order 1 s.if-order-gt1.false,
-      test_holds f.format_ok.ensures f.if-not-format_ok.false-raw,
+      le-leb c.args.order 1 c.if-order-gt1.false,
+      test_holds c.format_ok.ensures c.if-not-format_ok.false-raw,
       test_fails c.blocksize_ok.ensures c.if-not-blocksize_ok.true-raw,
     )
 
 pub returns-then-ranks-lt1 : goal.returns-then-ranks-lt1
 unfolding first_failing shape_tests tasks_rule
 returns-then-ranks-lt1 c =
-    let t = c in
-    let f = t in
-    let s = f in
-    let a = s.args in
+    let a = c.args in
     rw (
-      le-leb a.order 1 s.if-order-gt1.false,
-      test_holds f.format_ok.ensures f.if-not-format_ok.false-raw,
-      test_holds t.blocksize_ok.ensures t.if-not-blocksize_ok.false-raw,
+      le-leb a.order 1 c.if-order-gt1.false,
+      test_holds c.format_ok.ensures c.if-not-format_ok.false-raw,
+      test_holds c.blocksize_ok.ensures c.if-not-blocksize_ok.false-raw,
       lt-leb 1 a.ranks c.if-ranks-lt1.true,
     )
 
 pub returns-then-ranks-gt-MAX_TASKS : goal.returns-then-ranks-gt-MAX_TASKS
 unfolding first_failing shape_tests tasks_rule
 returns-then-ranks-gt-MAX_TASKS c =
-    let t = c in
-    let f = t in
-    let s = f in
-    let a = s.args in
+    let a = c.args in
     rw (
-      le-leb a.order 1 s.if-order-gt1.false,
-      test_holds f.format_ok.ensures f.if-not-format_ok.false-raw,
-      test_holds t.blocksize_ok.ensures t.if-not-blocksize_ok.false-raw,
+      le-leb a.order 1 c.if-order-gt1.false,
+      test_holds c.format_ok.ensures c.if-not-format_ok.false-raw,
+      test_holds c.blocksize_ok.ensures c.if-not-blocksize_ok.false-raw,
       within_over 1 max_tasks a.ranks c.if-ranks-gt-MAX_TASKS.true,
     )
 
 pub returns-then-ranks-sizes : goal.returns-then-ranks-sizes
 unfolding first_failing shape_tests tasks_rule
 returns-then-ranks-sizes c =
-    let t = c in
-    let f = t in
-    let s = f in
-    let a = s.args in
+    let a = c.args in
     rw (
-      le-leb a.order 1 s.if-order-gt1.false,
-      test_holds f.format_ok.ensures f.if-not-format_ok.false-raw,
-      test_holds t.blocksize_ok.ensures t.if-not-blocksize_ok.false-raw,
+      le-leb a.order 1 c.if-order-gt1.false,
+      test_holds c.format_ok.ensures c.if-not-format_ok.false-raw,
+      test_holds c.blocksize_ok.ensures c.if-not-blocksize_ok.false-raw,
       within_holds 1 max_tasks a.ranks c.if-ranks-lt1.false c.if-ranks-gt-MAX_TASKS.false,
       ne_eqb a.ranks a.sizes c.if-ranks-sizes.true,
     )
@@ -75,14 +62,11 @@ returns-then-ranks-sizes c =
 pub returns-then-prefix-gt-PREFIX : goal.returns-then-prefix-gt-PREFIX
 unfolding first_failing shape_tests tasks_rule
 returns-then-prefix-gt-PREFIX c =
-    let t = c in
-    let f = t in
-    let s = f in
-    let a = s.args in
+    let a = c.args in
     rw (
-      le-leb a.order 1 s.if-order-gt1.false,
-      test_holds f.format_ok.ensures f.if-not-format_ok.false-raw,
-      test_holds t.blocksize_ok.ensures t.if-not-blocksize_ok.false-raw,
+      le-leb a.order 1 c.if-order-gt1.false,
+      test_holds c.format_ok.ensures c.if-not-format_ok.false-raw,
+      test_holds c.blocksize_ok.ensures c.if-not-blocksize_ok.false-raw,
       within_holds 1 max_tasks a.ranks c.if-ranks-lt1.false c.if-ranks-gt-MAX_TASKS.false,
       eq-eqb a.ranks a.sizes c.if-ranks-sizes.false,
       lt-ltb prefix_length a.prefix c.if-prefix-gt-PREFIX.true,
@@ -91,14 +75,11 @@ returns-then-prefix-gt-PREFIX c =
 pub returns : goal.returns
 unfolding first_failing shape_tests tasks_rule
 returns c =
-    let t = c in
-    let f = t in
-    let s = f in
-    let a = s.args in
+    let a = c.args in
     rw (
-      le-leb a.order 1 s.if-order-gt1.false,
-      test_holds f.format_ok.ensures f.if-not-format_ok.false-raw,
-      test_holds t.blocksize_ok.ensures t.if-not-blocksize_ok.false-raw,
+      le-leb a.order 1 c.if-order-gt1.false,
+      test_holds c.format_ok.ensures c.if-not-format_ok.false-raw,
+      test_holds c.blocksize_ok.ensures c.if-not-blocksize_ok.false-raw,
       within_holds 1 max_tasks a.ranks c.if-ranks-lt1.false c.if-ranks-gt-MAX_TASKS.false,
       eq-eqb a.ranks a.sizes c.if-ranks-sizes.false,
       le-ltb prefix_length a.prefix c.if-prefix-gt-PREFIX.false,
