@@ -1,6 +1,5 @@
 -- File 0's tasks, then file 1's, over a row with none.
 use native.Mathlib.Omega.{arith}
-use borrow.Author.Rules.{rules}
 use Rattle.ranks.proofs.Holding.{holders_are}
 use Rattle.ranks.proofs.all_holders.Goals as goal
 

@@ -1,13 +1,9 @@
 -- The loop's invariant: no task passed carries the rank. The measure is the tasks left.
-use Prim.Native.Nat.{◌≤◌, ◌-◌}
-use mathlib.Core.Path.{◌≡◌, sym, ap}
-use mathlib.Core.Bool.{true, not}
+use mathlib.Core.Path.{sym, ap}
+use mathlib.Core.Bool.{not}
 use borrow.Author.Rules.{rules}
 use borrow.Author.Tests.{eq-eqb, ne_eqb}
-use lib.Dec.{eqb}
-use Rattle.lists.specs.Below.{all_below}
 use Rattle.lists.proofs.Below.{all_none, all_more, all_end, first_none, first_at}
-use Rattle.format.specs.Record.{entry}
 use Rattle.pairs.specs.Ranks.{carrier}
 use Rattle.ranks.proofs.carrier_of.Goals as goal
 

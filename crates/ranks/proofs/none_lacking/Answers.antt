@@ -1,12 +1,10 @@
 -- The loop's invariant: every rank passed has a task. The measure is the ranks left.
 use mathlib.Core.Path.{◌≡◌, sym, ap, ◌∙◌}
-use mathlib.Core.Bool.{true, not}
-use Prim.Native.Nat.{ℕ, ◌+◌, ◌-◌, ◌<◌, ◌≤◌}
+use mathlib.Core.Bool.{not}
+use Prim.Native.Nat.{ℕ, ◌+◌, ◌<◌}
 use native.Mathlib.Omega.{arith}
 use borrow.Author.Rules.{rules}
 use borrow.Author.Tests.{eq-eqb, ne_eqb}
-use lib.Dec.{eqb}
-use Rattle.lists.specs.Below.{all_below}
 use Rattle.lists.proofs.Below.{all_none, all_more, all_end, all_fails}
 use Rattle.format.specs.Record.{entry}
 use Rattle.ranks.specs.Holders.{holder}

@@ -1,14 +1,9 @@
 -- The loop's invariant: the tasks passed are at their ranks. The measure is the tasks left.
-use mathlib.Core.Path.{subst}
-use mathlib.Core.Logic.{⊎_elim}
-use Prim.Native.Nat.{ℕ, ◌-◌, ◌≤◌}
-use native.Mathlib.Nat.{le_antisymm}
 use native.Mathlib.Omega.{arith}
 use borrow.Author.Rules.{rules}
-use Rattle.format.specs.Record.{entry}
-use Rattle.ranks.specs.Holders.{Held}
-use Rattle.ranks.proofs.Holding.{held_none, held_over, held_taken, held_put}
+use Rattle.ranks.proofs.Holding.{held_over, held_taken, held_put}
 use Rattle.ranks.proofs.put_holders.Goals as goal
+use Rattle.ranks.proofs.put_holders.Goals.{then-rank-size+then-holders-at-eq0, then-rank-size+else-holders-at-eq0, else-rank-size}
 
 pub loop-i-preserved : goal.loop-i-preserved
 loop-i-preserved c =
@@ -17,10 +12,9 @@ loop-i-preserved c =
     let h = l.invariant.1 in
     let long = h.as_long in (
       search rules,
-      ⊎_elim
-          (λ w. rw w.3 (held_put _ _ _ _ h w.0.taken (omega (arith, s.requires)) w.2.taken))
-          (λ w. ⊎_elim
-          (λ w. rw w.3 (held_taken _ _ _ _ h w.2.left))
-          (λ w. rw w.1 (held_over _ _ _ _ h w.0.left)) w)
-          c.if-rank-size.branch,
+      elim c.if-rank-size.branch [
+        | then-rank-size+then-holders-at-eq0 w ↦ rw w.holders-is (held_put _ _ _ _ h (search rules) (omega arith) (search rules))
+        | then-rank-size+else-holders-at-eq0 w ↦ rw w.holders-is (held_taken _ _ _ _ h (search rules))
+        | else-rank-size w ↦ rw w.holders-is (held_over _ _ _ _ h (search rules))
+      ],
     )

@@ -1,13 +1,7 @@
 -- The loop's invariant: the tasks passed are at their ranks. The measure is the tasks left.
-use mathlib.Core.Path.{subst}
-use mathlib.Core.Logic.{⊎_elim}
-use Prim.Native.Nat.{ℕ, ◌-◌, ◌≤◌}
-use native.Mathlib.Nat.{le_antisymm}
-use native.Mathlib.Omega.{arith}
-use borrow.Author.Rules.{rules}
+use Prim.Native.Nat.{◌-◌, ◌≤◌}
 use Rattle.format.specs.Record.{entry}
 use Rattle.ranks.specs.Holders.{Held}
-use Rattle.ranks.proofs.Holding.{held_none, held_over, held_taken, held_put}
 use Rattle.ranks.proofs.put_holders.Given as goal
 
 abbrev pub invariant-loop-i : goal.invariant-loop-i

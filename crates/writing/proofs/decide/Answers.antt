@@ -1,7 +1,5 @@
 -- Each return is what is decided by the tests that led there.
 use mathlib.Core.Path.{◌∙◌}
-use native.Mathlib.Omega.{arith}
-use borrow.Author.Rules.{rules}
 use borrow.Author.Tests.{lt-leb}
 use Rattle.endian.proofs.Signed.{within_over}
 use Rattle.format.specs.Record.{file_in}

@@ -3,7 +3,6 @@ use mathlib.Core.Path.{refl, ap}
 use Prim.Native.Nat.{ℕ, ◌+◌, ◌-◌}
 use native.Mathlib.Omega.{arith}
 use lib.ListN.{length-take, length-drop}
-use borrow.Author.Rules.{rules}
 use Rattle.lists.proofs.Stores.{spends_part, spends_same, found_last}
 use Rattle.format.proofs.Bounds.{sound_size}
 use Rattle.format.specs.Record.{holds, start_of}
@@ -23,6 +22,16 @@ unfolding start_of holds
 overflow_add-end c =
     let s = c in
     omega (arith, c.chunk_holds.ensures, s.chunk_start-start.ensures, c.requires.inside)
+
+pub slice_bounds-copy_within-start : goal.slice_bounds-copy_within-start
+unfolding start_of holds
+slice_bounds-copy_within-start c =
+    omega (arith, c.chunk_holds.ensures, c.chunk_start-start.ensures, c.requires.fits, c.requires.inside)
+
+pub slice_bounds-copy_within-end : goal.slice_bounds-copy_within-end
+unfolding start_of holds
+slice_bounds-copy_within-end c =
+    omega (arith, c.chunk_holds.ensures, c.chunk_start-start.ensures, c.requires.fits, c.requires.inside)
 
 pub slice_bounds-copy_within-count : goal.slice_bounds-copy_within-count
 unfolding holds

@@ -8,7 +8,7 @@ use lib.IntN.{ℤ}
 use lib.ListN.{set}
 use mir.Facts.{to_z-of_z}
 use mir.Syntax.{w64}
-use borrow.Author.Rules.{rules, sfits_of}
+use borrow.Author.Rules.{sfits_of}
 use Rattle.format.specs.Limits.{max_tasks, max_blocks}
 use Rattle.format.specs.Meta2.{value_index}
 use Rattle.writing.specs.declared.Decision.{Decision}
@@ -149,7 +149,7 @@ bounds-lists-i c =
     let few : c.decide-d.result.chunk - 1 ≤ max_blocks = omega (arith, t.few) in
     (mul-le-mul few t.sound.tasks, t.first_task, omega (arith, t.last_task, t.sound.tasks)) in
     let e = c in
-    omega (arith, small, c.requires.0)
+    omega (arith, small, c.requires.lists_len)
 
 pub returns-clause-value : goal.returns-clause-value
 returns-clause-value c =
@@ -176,7 +176,7 @@ returns-clause-table_after c =
     let chunk : ℕ = e.decide-d.result.chunk in
     let written = to_z-of_z {w = w64} (sfits_of c.cell_of.type_inv) ∙ c.cell_of.ensures in
     ap₂ (λ (image : List ℕ) (value : ℤ).
-          state_of (file_in a.s.head) a.s (with_count a.lists.now (a.task - 1) chunk) image
-          (set a.table.now (value_index a.s.head.n (chunk - 1) (a.task - 1)) value))
-          p.put.ensures written
-          ∙ sym (known.leaves a.budget)
+    state_of (file_in a.s.head) a.s (with_count a.lists.now (a.task - 1) chunk) image
+    (set a.table.now (value_index a.s.head.n (chunk - 1) (a.task - 1)) value))
+    p.put.ensures written
+    ∙ sym (known.leaves a.budget)

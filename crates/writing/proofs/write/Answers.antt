@@ -1,7 +1,6 @@
 -- A budget that is greater than every length.
 use mathlib.Core.Path.{◌∙◌}
 use native.Mathlib.Omega.{arith}
-use borrow.Author.Rules.{rules}
 use Rattle.format.specs.declared.head.File.TheVariants.{Single}
 use Rattle.format.specs.Session.{state_of}
 use Rattle.format.specs.Write.{request_of}

@@ -1,7 +1,6 @@
 -- Refused by the session's tests, nothing changes; else it is the request's.
 use mathlib.Core.Path.{◌≡◌, sym, ◌∙◌}
 use native.Mathlib.Omega.{arith}
-use borrow.Author.Rules.{rules}
 use Rattle.format.specs.declared.head.File.TheVariants.{Single}
 use Rattle.format.specs.Record.{file_in}
 use Rattle.format.specs.Refusals.{first_failing}
