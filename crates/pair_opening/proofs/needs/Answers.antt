@@ -2,7 +2,6 @@
 use mathlib.Core.Path.{◌≡◌, sym, ap, ◌∙◌}
 use Prim.Native.Nat.{ℕ, ◌+◌}
 use native.Mathlib.Omega.{arith}
-use borrow.Author.Rules.{rules}
 use Rattle.lists.proofs.Below.{test_fails, test_holds}
 use Rattle.format.specs.declared.head.File.TheVariants.{First, Second}
 use Rattle.format.specs.declared.session.Needed.{Needed}
@@ -59,7 +58,7 @@ returns-then-not-none_lacking c =
     let two : c.needs-two.result ≡ needs_answer given' = c.needs-two.ensures ∙ needs_file Second _ _ _ _ in
     let zero' : (needs_answer given').refusal ≡ 0 = ap (λ (a : Needed). a.refusal) (sym two) ∙ c.if-two-ne0.false in
     let once : c.none_lacking.result ≡ each_once (tasks given) (tasks given') (entry given.ranks) (entry given'.ranks) =
-      c.none_lacking.ensures ∙ lacking_once _ _ _ _ in
+    c.none_lacking.ensures ∙ lacking_once _ _ _ _ in
     c.no_need-then-not-none_lacking.ensures ∙ ranks_refused given given' zero zero' (test_fails once c.if-not-none_lacking.true-raw)
 
 pub length_of-requires : goal.length_of-requires
@@ -103,7 +102,7 @@ returns c =
     let zero : (needs_answer given).refusal ≡ 0 = ap (λ (a : Needed). a.refusal) (sym one) ∙ c.if-one-ne0.false in
     let zero' : (needs_answer given').refusal ≡ 0 = ap (λ (a : Needed). a.refusal) (sym two) ∙ c.if-two-ne0.false in
     let once : c.none_lacking.result ≡ each_once (tasks given) (tasks given') (entry given.ranks) (entry given'.ranks) =
-      c.none_lacking.ensures ∙ lacking_once _ _ _ _ in
+    c.none_lacking.ensures ∙ lacking_once _ _ _ _ in
     (λ i. record {
       refusal = 0;
       image0 = (one i).image + c.length_of.ensures i;

@@ -1,7 +1,6 @@
 -- Budgets that are greater than every length.
 use mathlib.Core.Path.{◌∙◌}
 use native.Mathlib.Omega.{arith}
-use borrow.Author.Rules.{rules}
 use Rattle.format.specs.declared.head.File.TheVariants.{First, Second}
 use Rattle.format.specs.Open.{opening_of}
 use Rattle.format.proofs.Storing.{open_few}

@@ -3,7 +3,6 @@ use mathlib.Core.Path.{◌≡◌, sym, ap, ap₂, ◌∙◌}
 use Prim.Native.Nat.{ℕ, ◌<◌}
 use native.Mathlib.Omega.{arith}
 use lib.ListN.{length}
-use borrow.Author.Rules.{rules}
 use Rattle.format.specs.declared.head.File.TheVariants.{First, Second}
 use Rattle.format.specs.declared.session.Opened.{Opened}
 use Rattle.format.specs.Record.{no_lists}
@@ -29,7 +28,7 @@ returns-then-refusal-ne0-clause-value c =
     let o' : Opening = opening_of Second a.plan1 a.ranks1.now a.sizes1.now a.prefix1.now in
     let e = number o o' _ _ _ _ _ _ c.needs-needed.ensures c.open_refusal-refusal.ensures in
     let some : 0 < pair_open_refusal o o' (length a.image0.now) (length a.table0.now) (length a.image1.now) (length a.table1.now) =
-      omega (arith, e, c.if-refusal-ne0.true) in
+    omega (arith, e, c.if-refusal-ne0.true) in
     c.no_pair.ensures
     ∙ ap (λ (n : ℕ). record { session0 = no_session; lists0 = no_lists; session1 = no_session; lists1 = no_lists; refusal = n }) e
     ∙ sym (refused_pair o o' a.image0.now a.table0.now a.image1.now a.table1.now some)
@@ -41,7 +40,7 @@ returns-then-refusal-ne0-clause-image1_after c =
     let o' : Opening = opening_of Second a.plan1 a.ranks1.now a.sizes1.now a.prefix1.now in
     let e = number o o' _ _ _ _ _ _ c.needs-needed.ensures c.open_refusal-refusal.ensures in
     let some : 0 < pair_open_refusal o o' (length a.image0.now) (length a.table0.now) (length a.image1.now) (length a.table1.now) =
-      omega (arith, e, c.if-refusal-ne0.true) in
+    omega (arith, e, c.if-refusal-ne0.true) in
     sym (refused_found o o' a.image0.now a.table0.now a.image1.now a.table1.now some a.budget0 a.budget1)
 
 pub returns-then-refusal-ne0-clause-table1_after : goal.returns-then-refusal-ne0-clause-table1_after
@@ -51,7 +50,7 @@ returns-then-refusal-ne0-clause-table1_after c =
     let o' : Opening = opening_of Second a.plan1 a.ranks1.now a.sizes1.now a.prefix1.now in
     let e = number o o' _ _ _ _ _ _ c.needs-needed.ensures c.open_refusal-refusal.ensures in
     let some : 0 < pair_open_refusal o o' (length a.image0.now) (length a.table0.now) (length a.image1.now) (length a.table1.now) =
-      omega (arith, e, c.if-refusal-ne0.true) in
+    omega (arith, e, c.if-refusal-ne0.true) in
     sym (refused_tables o o' a.image0.now a.table0.now a.image1.now a.table1.now some)
 
 pub begin-one-requires : goal.begin-one-requires
@@ -101,4 +100,3 @@ returns-clause-table1_after c =
     let e = number o o' _ _ _ _ _ _ c.needs-needed.ensures c.open_refusal-refusal.ensures in
     let zero = sym e ∙ c.if-refusal-ne0.false in
     (λ i. (c.begin-one.ensures.table_after i, c.begin-two.ensures.table_after i)) ∙ sym (accepted_tables o o' a.image0.now a.table0.now a.image1.now a.table1.now zero)
-
