@@ -34,7 +34,7 @@ unfolding pair_close_refusal
 returns-then-refusal-ne0-clause-value c =
     let a = c.args in
     let p : Pair =
-      pair_of (state_of First a.s0 a.lists0.now a.image0.now a.table0.now) (state_of Second a.s1 a.lists1.now a.image1.now a.table1.now) in
+    pair_of (state_of First a.s0 a.lists0.now a.image0.now a.table0.now) (state_of Second a.s1 a.lists1.now a.image1.now a.table1.now) in
     let e = c.sessions_refusal-refusal.ensures in
     let some : 0 < pair_close_refusal p = omega (arith, e, c.if-refusal-ne0.true) in
     ap (λ (n : ℕ). record { refusal = n; session0 = a.s0; session1 = a.s1; length0 = 0; length1 = 0 }) e ∙ sym (refused_closed p some)
@@ -44,7 +44,7 @@ unfolding pair_close_refusal
 returns-then-refusal-ne0-clause-image1_after c =
     let a = c.args in
     let p : Pair =
-      pair_of (state_of First a.s0 a.lists0.now a.image0.now a.table0.now) (state_of Second a.s1 a.lists1.now a.image1.now a.table1.now) in
+    pair_of (state_of First a.s0 a.lists0.now a.image0.now a.table0.now) (state_of Second a.s1 a.lists1.now a.image1.now a.table1.now) in
     let e = c.sessions_refusal-refusal.ensures in
     let some : 0 < pair_close_refusal p = omega (arith, e, c.if-refusal-ne0.true) in
     sym (refused_found p some a.budget0 a.budget1)
@@ -54,7 +54,7 @@ unfolding pair_close_refusal
 most_chunks-most0-requires c =
     let a = c.args in
     let p : Pair =
-      pair_of (state_of First a.s0 a.lists0.now a.image0.now a.table0.now) (state_of Second a.s1 a.lists1.now a.image1.now a.table1.now) in
+    pair_of (state_of First a.s0 a.lists0.now a.image0.now a.table0.now) (state_of Second a.s1 a.lists1.now a.image1.now a.table1.now) in
     let zero : pair_close_refusal p ≡ 0 = sym c.sessions_refusal-refusal.ensures ∙ c.if-refusal-ne0.false in
     (search rules, (head_tasks _ _ (used₀ p zero).head).1)
 
@@ -63,7 +63,7 @@ unfolding pair_close_refusal
 overflow_cast-most0 c =
     let a = c.args in
     let p : Pair =
-      pair_of (state_of First a.s0 a.lists0.now a.image0.now a.table0.now) (state_of Second a.s1 a.lists1.now a.image1.now a.table1.now) in
+    pair_of (state_of First a.s0 a.lists0.now a.image0.now a.table0.now) (state_of Second a.s1 a.lists1.now a.image1.now a.table1.now) in
     let zero : pair_close_refusal p ≡ 0 = sym c.sessions_refusal-refusal.ensures ∙ c.if-refusal-ne0.false in
     omega (arith, (used₀ p zero).few, c.most_chunks-most0.ensures)
 
@@ -72,7 +72,7 @@ unfolding pair_close_refusal
 most_chunks-most1-requires c =
     let a = c.args in
     let p : Pair =
-      pair_of (state_of First a.s0 a.lists0.now a.image0.now a.table0.now) (state_of Second a.s1 a.lists1.now a.image1.now a.table1.now) in
+    pair_of (state_of First a.s0 a.lists0.now a.image0.now a.table0.now) (state_of Second a.s1 a.lists1.now a.image1.now a.table1.now) in
     let zero : pair_close_refusal p ≡ 0 = sym c.sessions_refusal-refusal.ensures ∙ c.if-refusal-ne0.false in
     (search rules, (head_tasks _ _ (used₁ p zero).head).1)
 
@@ -81,7 +81,7 @@ unfolding pair_close_refusal
 overflow_cast-most1 c =
     let a = c.args in
     let p : Pair =
-      pair_of (state_of First a.s0 a.lists0.now a.image0.now a.table0.now) (state_of Second a.s1 a.lists1.now a.image1.now a.table1.now) in
+    pair_of (state_of First a.s0 a.lists0.now a.image0.now a.table0.now) (state_of Second a.s1 a.lists1.now a.image1.now a.table1.now) in
     let zero : pair_close_refusal p ≡ 0 = sym c.sessions_refusal-refusal.ensures ∙ c.if-refusal-ne0.false in
     omega (arith, (used₁ p zero).few, c.most_chunks-most1.ensures)
 
@@ -90,7 +90,7 @@ unfolding pair_close_refusal
 finish_first-length0-requires-clause-meta2fits c =
     let a = c.args in
     let p : Pair =
-      pair_of (state_of First a.s0 a.lists0.now a.image0.now a.table0.now) (state_of Second a.s1 a.lists1.now a.image1.now a.table1.now) in
+    pair_of (state_of First a.s0 a.lists0.now a.image0.now a.table0.now) (state_of Second a.s1 a.lists1.now a.image1.now a.table1.now) in
     let zero : pair_close_refusal p ≡ 0 = sym c.sessions_refusal-refusal.ensures ∙ c.if-refusal-ne0.false in
     rw c.most_chunks-most0.ensures (passed_fits (used₀ p zero) (search rules), search rules, (head_tasks _ _ (used₁ p zero).head).1)
 
@@ -99,7 +99,7 @@ unfolding pair_close_refusal
 finish_first-length0-requires-clause-lists1_value c =
     let a = c.args in
     let p : Pair =
-      pair_of (state_of First a.s0 a.lists0.now a.image0.now a.table0.now) (state_of Second a.s1 a.lists1.now a.image1.now a.table1.now) in
+    pair_of (state_of First a.s0 a.lists0.now a.image0.now a.table0.now) (state_of Second a.s1 a.lists1.now a.image1.now a.table1.now) in
     let zero : pair_close_refusal p ≡ 0 = sym c.sessions_refusal-refusal.ensures ∙ c.if-refusal-ne0.false in
     all_there p zero
 
@@ -108,7 +108,7 @@ unfolding pair_close_refusal
 finish_first-length0-requires-clause-m_in_bounds c =
     let a = c.args in
     let p : Pair =
-      pair_of (state_of First a.s0 a.lists0.now a.image0.now a.table0.now) (state_of Second a.s1 a.lists1.now a.image1.now a.table1.now) in
+    pair_of (state_of First a.s0 a.lists0.now a.image0.now a.table0.now) (state_of Second a.s1 a.lists1.now a.image1.now a.table1.now) in
     let zero : pair_close_refusal p ≡ 0 = sym c.sessions_refusal-refusal.ensures ∙ c.if-refusal-ne0.false in
     rw c.most_chunks-most0.ensures (mapping_inside p zero)
 
@@ -117,7 +117,7 @@ unfolding pair_close_refusal
 finish-length1-requires c =
     let a = c.args in
     let p : Pair =
-      pair_of (state_of First a.s0 a.lists0.now a.image0.now a.table0.now) (state_of Second a.s1 a.lists1.now a.image1.now a.table1.now) in
+    pair_of (state_of First a.s0 a.lists0.now a.image0.now a.table0.now) (state_of Second a.s1 a.lists1.now a.image1.now a.table1.now) in
     let zero : pair_close_refusal p ≡ 0 = sym c.sessions_refusal-refusal.ensures ∙ c.if-refusal-ne0.false in
     rw c.most_chunks-most1.ensures (passed_fits (used₁ p zero) (search rules))
 
@@ -126,12 +126,12 @@ unfolding pair_close_refusal
 returns-clause-value c =
     let a = c.args in
     let p : Pair =
-      pair_of (state_of First a.s0 a.lists0.now a.image0.now a.table0.now) (state_of Second a.s1 a.lists1.now a.image1.now a.table1.now) in
+    pair_of (state_of First a.s0 a.lists0.now a.image0.now a.table0.now) (state_of Second a.s1 a.lists1.now a.image1.now a.table1.now) in
     let zero : pair_close_refusal p ≡ 0 = sym c.sessions_refusal-refusal.ensures ∙ c.if-refusal-ne0.false in
     let h = a.s0.head in
     let end =
-      c.finish_first-length0.ensures.value
-      ∙ ap (λ (m : ℕ). end_at h (size_of a.lists0.now) m + mapping_length (tasks₀ p) (tasks₁ p)) c.most_chunks-most0.ensures in
+    c.finish_first-length0.ensures.value
+    ∙ ap (λ (m : ℕ). end_at h (size_of a.lists0.now) m + mapping_length (tasks₀ p) (tasks₁ p)) c.most_chunks-most0.ensures in
     let end' = c.finish-length1.ensures.value ∙ ap (end_at a.s1.head (size_of a.lists1.now)) c.most_chunks-most1.ensures in
     ap₂ (λ (l l' : ℕ). record { refusal = 0; session0 = as_closed a.s0; session1 = as_closed a.s1; length0 = l; length1 = l' }) end end'
     ∙ sym (accepted_closed p zero)
@@ -141,9 +141,8 @@ unfolding first_stores mapping_store second_stores pair_close_refusal
 returns-clause-image1_after c =
     let a = c.args in
     let p : Pair =
-      pair_of (state_of First a.s0 a.lists0.now a.image0.now a.table0.now) (state_of Second a.s1 a.lists1.now a.image1.now a.table1.now) in
+    pair_of (state_of First a.s0 a.lists0.now a.image0.now a.table0.now) (state_of Second a.s1 a.lists1.now a.image1.now a.table1.now) in
     let zero : pair_close_refusal p ≡ 0 = sym c.sessions_refusal-refusal.ensures ∙ c.if-refusal-ne0.false in
     let one = c.finish_first-length0.ensures.image0_after ∙ ap (found₀ p a.budget0) c.most_chunks-most0.ensures in
     let two = c.finish-length1.ensures.image_after ∙ ap (found₁ p a.budget1) c.most_chunks-most1.ensures in
     ap₂ (λ (xs ys : List ℕ). (xs, ys)) one two ∙ sym (accepted_found p zero a.budget0 a.budget1)
-
