@@ -8,7 +8,10 @@ use Rattle.format.specs.Meta2.{unused}
 use Rattle.opening.proofs.mark_unused.Given as goal
 
 abbrev pub invariant-loop-j : goal.invariant-loop-j
-invariant-loop-j l = (l.j ≤ l.cells) × (length l.table ≡ length l.initial.table) × (l.table ≡ splice l.initial.table l.at (list_below l.j (λ i. unused)))
+invariant-loop-j l =
+    (l.j ≤ l.cells)
+    × (length l.table ≡ length l.initial.table)
+    × (l.table ≡ splice l.initial.table l.at (list_below l.j (λ i. unused)))
 
 abbrev pub decreases-loop-j : goal.decreases-loop-j
 decreases-loop-j l = l.cells - l.j

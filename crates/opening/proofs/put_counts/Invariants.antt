@@ -8,7 +8,10 @@ use Rattle.format.specs.Record.{count_at}
 use Rattle.opening.proofs.put_counts.Given as goal
 
 abbrev pub invariant-loop-i : goal.invariant-loop-i
-invariant-loop-i l = (l.i ≤ l.n) × (length l.lists ≡ length l.initial.lists) × (l.lists ≡ splice l.initial.lists (count_at 0) (list_below l.i (λ j. l.count)))
+invariant-loop-i l =
+    (l.i ≤ l.n)
+    × (length l.lists ≡ length l.initial.lists)
+    × (l.lists ≡ splice l.initial.lists (count_at 0) (list_below l.i (λ j. l.count)))
 
 abbrev pub decreases-loop-i : goal.decreases-loop-i
 decreases-loop-i l = l.n - l.i

@@ -12,7 +12,8 @@ use Rattle.format.proofs.Opening.{opened_answer}
 use Rattle.pairs.specs.declared.PairNeeded.{PairNeeded}
 use Rattle.pairs.specs.Open.{pair_needs, pair_open_refusal}
 use Rattle.pair_opening.specs.Short.{short_of}
-use Rattle.pair_opening.proofs.Opened.{short_is, first_opens, second_opens, accepted_pair, accepted_found, accepted_tables, refused_pair, refused_found, refused_tables}
+use Rattle.pair_opening.proofs.Opened.{short_is, first_opens, second_opens, accepted_pair, accepted_found, accepted_tables}
+use Rattle.pair_opening.proofs.Opened.{refused_pair, refused_found, refused_tables}
 use Rattle.pair_opening.proofs.open_within.Goals as goal
 
 -- the number by what is needed is the opening's
@@ -90,7 +91,8 @@ returns-clause-image1_after c =
     let o' : Opening = opening_of Second a.plan1 a.ranks1.now a.sizes1.now a.prefix1.now in
     let e = number o o' _ _ _ _ _ _ c.needs-needed.ensures c.open_refusal-refusal.ensures in
     let zero = sym e ∙ c.if-refusal-ne0.false in
-    (λ i. (c.begin-one.ensures.image_after i, c.begin-two.ensures.image_after i)) ∙ sym (accepted_found o o' a.image0.now a.table0.now a.image1.now a.table1.now zero a.budget0 a.budget1)
+    (λ i. (c.begin-one.ensures.image_after i, c.begin-two.ensures.image_after i))
+    ∙ sym (accepted_found o o' a.image0.now a.table0.now a.image1.now a.table1.now zero a.budget0 a.budget1)
 
 pub returns-clause-table1_after : goal.returns-clause-table1_after
 returns-clause-table1_after c =
@@ -99,4 +101,5 @@ returns-clause-table1_after c =
     let o' : Opening = opening_of Second a.plan1 a.ranks1.now a.sizes1.now a.prefix1.now in
     let e = number o o' _ _ _ _ _ _ c.needs-needed.ensures c.open_refusal-refusal.ensures in
     let zero = sym e ∙ c.if-refusal-ne0.false in
-    (λ i. (c.begin-one.ensures.table_after i, c.begin-two.ensures.table_after i)) ∙ sym (accepted_tables o o' a.image0.now a.table0.now a.image1.now a.table1.now zero)
+    (λ i. (c.begin-one.ensures.table_after i, c.begin-two.ensures.table_after i))
+    ∙ sym (accepted_tables o o' a.image0.now a.table0.now a.image1.now a.table1.now zero)
