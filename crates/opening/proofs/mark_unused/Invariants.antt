@@ -1,0 +1,17 @@
+-- The loop's invariant: the first j cells from `at` on are -1, the others are as they were. The measure is the cells left.
+use Prim.Native.Nat.{◌≤◌, ◌-◌}
+use mathlib.Core.Path.{◌≡◌}
+use lib.ListN.{length}
+use Rattle.lists.specs.Below.{list_below}
+use Rattle.lists.specs.Splice.{splice}
+use Rattle.format.specs.Meta2.{unused}
+use Rattle.opening.proofs.mark_unused.Given as goal
+
+abbrev pub invariant-loop-j : goal.invariant-loop-j
+invariant-loop-j l =
+    (l.j ≤ l.cells)
+    × (length l.table ≡ length l.initial.table)
+    × (l.table ≡ splice l.initial.table l.at (list_below l.j (λ i. unused)))
+
+abbrev pub decreases-loop-j : goal.decreases-loop-j
+decreases-loop-j l = l.cells - l.j

@@ -1,0 +1,35 @@
+-- Each return by the tests that led there.
+use Rattle.lists.proofs.Below.{test_fails, test_holds}
+use Rattle.format.specs.Refusals.{first_failing}
+use Rattle.format.specs.Open.{number_tests}
+use Rattle.opening.proofs.number_refusal.Goals as goal
+
+pub returns-then-not-ranks_ok : goal.returns-then-not-ranks_ok
+unfolding first_failing number_tests
+returns-then-not-ranks_ok c = rw (test_fails c.ranks_ok.ensures c.if-not-ranks_ok.true-raw)
+
+pub returns-then-not-sizes_ok : goal.returns-then-not-sizes_ok
+unfolding first_failing number_tests
+returns-then-not-sizes_ok c =
+    rw (
+      test_holds c.ranks_ok.ensures c.if-not-ranks_ok.false-raw,
+      test_fails c.sizes_ok.ensures c.if-not-sizes_ok.true-raw,
+    )
+
+pub returns-then-not-planned_ok : goal.returns-then-not-planned_ok
+unfolding first_failing number_tests
+returns-then-not-planned_ok c =
+    rw (
+      test_holds c.ranks_ok.ensures c.if-not-ranks_ok.false-raw,
+      test_holds c.sizes_ok.ensures c.if-not-sizes_ok.false-raw,
+      test_fails c.planned_ok.ensures c.if-not-planned_ok.true-raw,
+    )
+
+pub returns : goal.returns
+unfolding first_failing number_tests
+returns c =
+    rw (
+      test_holds c.ranks_ok.ensures c.if-not-ranks_ok.false-raw,
+      test_holds c.sizes_ok.ensures c.if-not-sizes_ok.false-raw,
+      test_holds c.planned_ok.ensures c.if-not-planned_ok.false-raw,
+    )
