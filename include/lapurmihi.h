@@ -25,11 +25,6 @@
  *     lapur_length    the bytes of the container, without what follows it in the image
  *     lapur_prefix    where in the image its filename prefix lies
  *
- * A loaded container may be packed, which leaves out the room that no task used, before it is copied elsewhere:
- *
- *     lapur_packed_length    the bytes of the packed container
- *     lapur_pack             stores it in a second image
- *
  * A container in two physical files, a pair, has calls of its own, in lapurmihi_pair.h.
  *
  * Answers. Every call is accepted, with the number 0, or refused with the number of the first of its tests that fails. A refused call
@@ -61,15 +56,13 @@
  *     during the session                 LAPUR_NOT_CLOSED
  *     while closing                      LAPUR_NOT_CLOSED, LAPUR_BAD_META2_PLACE or the complete container
  *
- * Packing gives of its second image what it gave before its first store, then LAPUR_NO_MARK, and after its last the packed container.
- *
  * An image that is memory, to be written to a file later or mapped from one, reaches the drive in no such order by itself: who wants it has
  * to write and sync step by step. For a program's own tests, lapurmihi_cuts.h has calls that leave in the image what a cut leaves.
  *
  * What is proved. The library has the functions that are only declared here, and each of them is proved: lapur_version,
  * lapur_chunk_size, lapur_needs, lapur_open, lapur_load, and those whose names end in _lent. lapur_write, lapur_close, lapur_chunk,
- * lapur_total, lapur_read, lapur_length, lapur_prefix, lapur_packed_length and lapur_pack are a few lines of C over the function of their
- * name with _lent; lapur_sentence, lapur_field_name, lapur_session_lists and lapur_loaded_lists are C alone.
+ * lapur_total, lapur_read, lapur_length and lapur_prefix are a few lines of C over the function of their name with _lent;
+ * lapur_sentence, lapur_field_name, lapur_session_lists and lapur_loaded_lists are C alone.
  *
  * Link with liblapurmihi: `tools/install` puts the library, this header and a file for pkg-config where compilers find them, and
  * `tools/library` builds target/staticlib/liblapurmihi.a in the repository.
@@ -85,8 +78,8 @@ extern "C" {
 #endif
 
 /* The version of this header: 10,000 times its first number, 100 times its second, and its third. */
-#define LAPUR_VERSION 501
-#define LAPUR_VERSION_TEXT "0.5.1"
+#define LAPUR_VERSION 500
+#define LAPUR_VERSION_TEXT "0.5.0"
 
 /* The most tasks of a container, and the entries that a record has for them. */
 #define LAPUR_TASKS 64
@@ -394,10 +387,10 @@ struct lapur_part {
     uint64_t length;
 };
 
-/* What lapur_chunk_size, lapur_total, lapur_read, lapur_length, lapur_packed_length and lapur_pack answer. */
+/* What lapur_chunk_size, lapur_total, lapur_read and lapur_length answer. */
 struct lapur_byte_count {
     uint32_t refusal;
-    uint64_t bytes;                        /* what a chunk holds, the bytes of the task, those copied, or those of the container */
+    uint64_t bytes;                        /* what a chunk holds, the bytes of the task, the bytes copied, or the bytes of the container */
 };
 
 /* The sizes that these records have in the library: a compiler that is told to lay them out otherwise stops here. */
@@ -660,54 +653,6 @@ static inline struct lapur_part lapur_prefix(
     const int64_t *table, size_t cells)
 {
     return lapur_prefix_lent(loaded->numbers, lapur_loaded_lists(loaded), image, image_length, table, cells);
-}
-
-/* lapur_packed_length, of a record in two parts. */
-struct lapur_byte_count lapur_packed_length_lent(
-    struct lapur_loaded_numbers numbers, const uint64_t lists[LAPUR_LISTS],
-    const uint8_t *image, size_t image_length,
-    const int64_t *table, size_t cells);
-
-/*
- * Counts the bytes of the container that lapur_pack makes of this one, which are those that its second image needs.
- *
- * Tests: 17, 18, 19, 9 (a task's total is over 1,073,741,824).
- * Refused: the count is 0.
- */
-static inline struct lapur_byte_count lapur_packed_length(
-    const struct lapur_loaded *loaded,
-    const uint8_t *image, size_t image_length,
-    const int64_t *table, size_t cells)
-{
-    return lapur_packed_length_lent(loaded->numbers, lapur_loaded_lists(loaded), image, image_length, table, cells);
-}
-
-/* lapur_pack, of a record in two parts. */
-struct lapur_byte_count lapur_pack_lent(
-    struct lapur_loaded_numbers numbers, const uint64_t lists[LAPUR_LISTS],
-    const uint8_t *image, size_t image_length,
-    const int64_t *table, size_t cells,
-    uint8_t *second, size_t second_length);
-
-/*
- * Packs a container: stores it anew in a second image, without the room that no task used. Each task's requested size is then its total, at
- * least 1, and all its bytes stand in chunk 1; a task that wrote nothing has no chunk, in format 4 one of 0 bytes. The byte order, the
- * versions, the format, the ranks and the blocksize are the record's, the flags and the filename prefix the image's. Each task's stream is
- * the same as before, and a packed container that is packed again stays as it is, byte for byte.
- *
- * Tests: 17, 18, 19, 9 (a task's total is over 1,073,741,824), 18 (the second image is shorter than lapur_packed_length says).
- * Changes: the second image up to the packed container's length; padding and the unused rest of a chunk become zeros.
- * Stores, in this order: 0 into the second image's first byte, then all from its second byte on, and the s of the mark last. They are as
- * many as the packed container has bytes, and one more.
- * Hands back: the packed container's length. Refused: 0.
- */
-static inline struct lapur_byte_count lapur_pack(
-    const struct lapur_loaded *loaded,
-    const uint8_t *image, size_t image_length,
-    const int64_t *table, size_t cells,
-    uint8_t *second, size_t second_length)
-{
-    return lapur_pack_lent(loaded->numbers, lapur_loaded_lists(loaded), image, image_length, table, cells, second, second_length);
 }
 
 #ifdef __cplusplus

@@ -6,7 +6,6 @@
  *     lapur_open_within     opens a session, as lapur_open does
  *     lapur_write_within    appends bytes to a task, as lapur_write does
  *     lapur_close_within    closes the session, as lapur_close does
- *     lapur_pack_within     packs a loaded container into a second image, as lapur_pack does
  *
  * and of a pair lapur_pair_open_within, lapur_pair_write_within and lapur_pair_close_within, with a budget for each image.
  *
@@ -18,8 +17,8 @@
  * before it, and then does with the image what its program does with a file after a cut. What a load gives of it stands below; that holds of
  * a session whose record, image and table no one but its own calls changed, and with a table of LAPUR_CELLS cells.
  *
- * What is proved. The library has lapur_open_within, lapur_pair_open_within and the five functions whose names end in _lent, and each of
- * them is proved; the other five are a few lines of C over these, which take a record in two parts as in lapurmihi.h. What a load gives of
+ * What is proved. The library has lapur_open_within, lapur_pair_open_within and the four functions whose names end in _lent, and each of
+ * them is proved; the other four are a few lines of C over these, which take a record in two parts as in lapurmihi.h. What a load gives of
  * what is found is proved of a single file.
  *
  * Link with liblapurmihi_cuts beside liblapurmihi, -llapurmihi_cuts -llapurmihi, both of one version. Where they are installed, the file
@@ -109,33 +108,6 @@ static inline struct lapur_closed lapur_close_within(
     struct lapur_closed closed = {answer.refusal, answer.length};
     session->numbers = answer.numbers;
     return closed;
-}
-
-/* lapur_pack_within, of a record in two parts. */
-struct lapur_byte_count lapur_pack_within_lent(
-    struct lapur_loaded_numbers numbers, const uint64_t lists[LAPUR_LISTS],
-    const uint8_t *image, size_t image_length,
-    const int64_t *table, size_t cells,
-    uint8_t *second, size_t second_length,
-    uint64_t budget);
-
-/*
- * lapur_pack, of whose stores into the second image just the first `budget` are made: 0 into its first byte, then all from its second byte on,
- * and the s of the mark last, one store more than the packed container has bytes.
- *
- * Tests and answer are those of lapur_pack, whatever the budget.
- * A load of what is found in the second image gives what it gave before where the budget is 0, LAPUR_NO_MARK where it is less than all the
- * stores, and from there on the packed container.
- */
-static inline struct lapur_byte_count lapur_pack_within(
-    const struct lapur_loaded *loaded,
-    const uint8_t *image, size_t image_length,
-    const int64_t *table, size_t cells,
-    uint8_t *second, size_t second_length,
-    uint64_t budget)
-{
-    return lapur_pack_within_lent(
-        loaded->numbers, lapur_loaded_lists(loaded), image, image_length, table, cells, second, second_length, budget);
 }
 
 /*

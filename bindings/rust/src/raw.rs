@@ -333,26 +333,6 @@ extern "C" {
         table: *const i64,
         table_len: usize,
     ) -> Part;
-
-    fn lapur_packed_length_lent(
-        numbers: LoadedNumbers,
-        lists: *const [u64; LISTS],
-        image: *const u8,
-        image_len: usize,
-        table: *const i64,
-        table_len: usize,
-    ) -> ByteCount;
-
-    fn lapur_pack_lent(
-        numbers: LoadedNumbers,
-        lists: *const [u64; LISTS],
-        image: *const u8,
-        image_len: usize,
-        table: *const i64,
-        table_len: usize,
-        second: *mut u8,
-        second_len: usize,
-    ) -> ByteCount;
 }
 
 impl Session {
@@ -544,30 +524,4 @@ pub fn prefix(loaded: &Loaded, image: &[u8], table: &[i64]) -> Part {
     let (image, image_len) = (image.as_ptr(), image.len());
     let (numbers, lists) = (loaded.numbers, loaded.lists());
     unsafe { lapur_prefix_lent(numbers, lists, image, image_len, table.as_ptr(), table.len()) }
-}
-
-/// The bytes of the container that [`pack`] makes of this one: its tests are 17, 18, 19 and 9.
-#[inline]
-pub fn packed_length(loaded: &Loaded, image: &[u8], table: &[i64]) -> ByteCount {
-    let (image, image_len) = (image.as_ptr(), image.len());
-    let (numbers, lists) = (loaded.numbers, loaded.lists());
-    let (table, table_len) = (table.as_ptr(), table.len());
-    unsafe { lapur_packed_length_lent(numbers, lists, image, image_len, table, table_len) }
-}
-
-/// Packs a container into a second image, with all bytes of each task in its chunk 1, and gives its length; refused, 0.
-#[inline]
-pub fn pack(loaded: &Loaded, image: &[u8], table: &[i64], second: &mut [u8]) -> ByteCount {
-    unsafe {
-        lapur_pack_lent(
-            loaded.numbers,
-            loaded.lists(),
-            image.as_ptr(),
-            image.len(),
-            table.as_ptr(),
-            table.len(),
-            second.as_mut_ptr(),
-            second.len(),
-        )
-    }
 }

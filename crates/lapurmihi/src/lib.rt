@@ -20,18 +20,17 @@ ghost use Rattle.format.specs.declared.loaded.ByteCount.{ByteCount};
 ghost use Rattle.format.specs.Load.{load_answer, load_table};
 ghost use Rattle.format.specs.About.{chunk_size_answer, length_answer, prefix_answer};
 ghost use Rattle.format.specs.Reads.{container_of, part_answer, total_answer, read_answer, read_output};
-ghost use Rattle.packs.specs.Pack.{pack_needs, pack_answer, pack_image};
 
 use format::head::LISTS;
 use format::loaded::{ByteCount, LoadAnswer, Loaded, Part};
 use format::session::{Closed, Needed, Opened, Plan, Session};
 
 // The library's version: 10,000 times the first number, 100 times the second, and the third.
-pub const VERSION: u32 = 501;
+pub const VERSION: u32 = 500;
 
 #[unsafe(no_mangle)]
 pub extern "C" fn lapur_version() -> u32
-    ensures { result ≡ 501 }
+    ensures { result ≡ 500 }
 {
     VERSION
 }
@@ -169,30 +168,4 @@ pub extern "C" fn lapur_prefix_lent(
     ensures length_in_bounds { result.start + result.length ≤ length image.now }
 {
     container::prefix(l, lists, image, table)
-}
-
-#[unsafe(no_mangle)]
-pub extern "C" fn lapur_packed_length_lent(
-    l: Loaded,
-    lists: &[u64; LISTS],
-    image: &[u8],
-    table: &[i64],
-) -> ByteCount
-    ensures { result ≡ pack_needs (container_of Single l lists.now image.now table.now) }
-{
-    container::packed_length(l, lists, image, table)
-}
-
-#[unsafe(no_mangle)]
-pub extern "C" fn lapur_pack_lent(
-    l: Loaded,
-    lists: &[u64; LISTS],
-    image: &[u8],
-    table: &[i64],
-    second: &mut [u8],
-) -> ByteCount
-    ensures value { result ≡ pack_answer (container_of Single l lists.now image.now table.now) second.old }
-    ensures second_after { second.new ≡ pack_image (container_of Single l lists.now image.now table.now) second.old }
-{
-    container::pack(l, lists, image, table, second)
 }

@@ -12,17 +12,12 @@ ghost use Rattle.format.specs.Session.{state_of};
 ghost use Rattle.format.specs.Open.{opening_of, open_answer, open_found, open_table};
 ghost use Rattle.format.specs.Write.{request_of, write_refusal, write_found};
 ghost use Rattle.format.specs.Close.{close_answer, close_found};
-ghost use Rattle.format.specs.declared.loaded.Loaded.{Loaded};
-ghost use Rattle.format.specs.declared.loaded.ByteCount.{ByteCount};
-ghost use Rattle.format.specs.Reads.{container_of};
-ghost use Rattle.packs.specs.Pack.{pack_answer, pack_found};
 ghost use Rattle.pairs.specs.declared.PairOpened.{PairOpened};
 ghost use Rattle.pairs.specs.declared.PairClosed.{PairClosed};
 ghost use Rattle.pairs.specs.Open.{pair_opened, pair_found, pair_tables};
 ghost use Rattle.pairs.specs.Sessions.{pair_of, pair_write_refusal, pair_write_found, pair_closed, pair_close_found};
 
 use format::head::LISTS;
-use format::loaded::{ByteCount, Loaded};
 use format::session::{Closed, Opened, Plan, Session};
 use pairs::{PairClosed, PairOpened};
 
@@ -71,21 +66,6 @@ pub extern "C" fn lapur_close_within_lent(
     ensures image_after { image.new ≡ close_found (state_of Single s lists.now image.old table.now) budget }
 {
     container::close_within(s, lists, image, table, budget)
-}
-
-#[unsafe(no_mangle)]
-pub extern "C" fn lapur_pack_within_lent(
-    l: Loaded,
-    lists: &[u64; LISTS],
-    image: &[u8],
-    table: &[i64],
-    second: &mut [u8],
-    budget: u64,
-) -> ByteCount
-    ensures value { result ≡ pack_answer (container_of Single l lists.now image.now table.now) second.old }
-    ensures second_after { second.new ≡ pack_found (container_of Single l lists.now image.now table.now) second.old budget }
-{
-    container::pack_within(l, lists, image, table, second, budget)
 }
 
 // ---- of a pair, with a budget for each image

@@ -2,10 +2,7 @@
 //! stand behind the feature `cuts`.
 
 use super::pair::{PairClosed, PairClosedLent, PairOpened};
-use super::{
-    ByteCount, Closed, ClosedLent, Loaded, LoadedNumbers, Opened, Plan, Session, SessionNumbers,
-    LISTS,
-};
+use super::{Closed, ClosedLent, Opened, Plan, Session, SessionNumbers, LISTS};
 
 #[link(name = "lapurmihi_cuts", kind = "static")]
 extern "C" {
@@ -46,18 +43,6 @@ extern "C" {
         table_len: usize,
         budget: u64,
     ) -> ClosedLent;
-
-    fn lapur_pack_within_lent(
-        numbers: LoadedNumbers,
-        lists: *const [u64; LISTS],
-        image: *const u8,
-        image_len: usize,
-        table: *const i64,
-        table_len: usize,
-        second: *mut u8,
-        second_len: usize,
-        budget: u64,
-    ) -> ByteCount;
 
     fn lapur_pair_open_within(
         plan0: Plan,
@@ -199,31 +184,6 @@ pub fn close_within(session: &mut Session, image: &mut [u8], table: &[i64], budg
         )
     };
     answer.noted_in(session)
-}
-
-/// Packs a container into a second image as [`pack`](super::pack) does, of whose byte stores just the first `budget` reach it: what a power cut then leaves.
-/// For tests of programs: the answer is that of the whole call.
-#[inline]
-pub fn pack_within(
-    loaded: &Loaded,
-    image: &[u8],
-    table: &[i64],
-    second: &mut [u8],
-    budget: u64,
-) -> ByteCount {
-    unsafe {
-        lapur_pack_within_lent(
-            loaded.numbers,
-            loaded.lists(),
-            image.as_ptr(),
-            image.len(),
-            table.as_ptr(),
-            table.len(),
-            second.as_mut_ptr(),
-            second.len(),
-            budget,
-        )
-    }
 }
 
 /// Opens a pair as [`pair::open`](super::pair::open) does, of whose byte stores just the first `budgets` reach each image. For tests of programs: answer,
