@@ -12,7 +12,7 @@ pub const LONGEST: usize = 65_536;
 pub const INPUT: usize = LONGEST + 1;
 
 // What was read: how many bytes, or why a read failed.
-#[derive(Clone, Copy, Drop)]
+#[derive(Clone, Copy)]
 pub struct Input {
     pub failed: Option<Error>,
     pub count: usize,

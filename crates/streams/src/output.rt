@@ -1,5 +1,6 @@
 // A text written whole to a file or to standard output.
 ghost use Rattle.std.specs.Prelude.{◌≡◌, ◌≤◌, length, take, IfOk, IsOk, OnOk};
+ghost use Rattle.std.specs.Io.{StartsWith};
 ghost use Rattle.std.specs.Io.KnownBytes.{Appends};
 
 use crate::AGAIN;
@@ -41,4 +42,20 @@ pub fn write_text<W: Write>(to: &mut W, text: &[u8]) -> Result<()>
         done += put;
     }
     Ok(())
+}
+
+// The system's own words for an error: what stands before the bracket with its number.
+fn words(text: &str) -> &str
+    ensures { StartsWith text.now result.now }
+{
+    match text.split_once(" (os error ") {
+        Some((words, _)) => words,
+        None => text,
+    }
+}
+
+// Says on standard error what failed, and why in the system's words.
+pub fn fail<R: Eprint + Alloc>(rt: &R, what: &str, why: Error) -> Result<()> {
+    let text = format!(in rt.alloc(); "{why}")?;
+    eprintln!(rt; "{what}: {}", words(text.as_str()))
 }
