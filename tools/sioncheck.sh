@@ -1,7 +1,7 @@
 #!/bin/sh
-# The command sioncheck, over the proved program of that name: PROGRAM [FILE]. Prints the program's line as it is, and makes a status of it, which
-# the program itself has not: 0 where the container is accepted, 1 where it is refused or too long for the program, 2 where the command line
-# is wrong, 3 where there is no line.
+# The command sioncheck, over the proved program of that name: PROGRAM [FILE]. Prints the program's line as it is, and makes a status of it, where
+# the program's own says only whether there is a line: 0 where the container is accepted, 1 where it is refused or too long for the program, 2
+# where the command line is wrong, 3 where there is no line.
 set -u
 program=$1
 shift

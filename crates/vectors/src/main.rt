@@ -9,7 +9,7 @@ use format::loaded::Loaded;
 use line::LINE;
 use std::env;
 use std::fs::File;
-use std::io::{Error, Result};
+use std::io::Result;
 use std::process::ExitCode;
 use streams::input::{INPUT, LONGEST};
 use streams::{input, output};
@@ -208,21 +208,27 @@ fn run(rt: &HostRuntime, name: &str) -> Result<()> {
     Ok(())
 }
 
-// What failed is said on standard error; that this cannot be written either changes nothing.
-fn fail(rt: &HostRuntime, what: &str, why: Error) -> ExitCode {
-    let _ = output::fail(rt, what, why);
-    ExitCode::FAILURE
+// Whether the file that an argument names could be run; if not, why is said on standard error.
+fn run_argument(rt: &HostRuntime, name: &str) -> bool {
+    if let Err(e) = run(rt, name) {
+        let _ = output::fail(rt, name, e);
+        return false;
+    }
+    true
 }
 
-// The first file that cannot be opened or read is the last that is tried.
+// The first file that cannot be run is the last that is tried.
 fn main(rt: HostRuntime) -> ExitCode {
     let names = match env::args(&rt) {
         Ok(names) => names,
-        Err(e) => return fail(&rt, "vectors: argument", e),
+        Err(e) => {
+            let _ = output::fail(&rt, "vectors: argument", e);
+            return ExitCode::FAILURE;
+        }
     };
     for name in names.skip(1) {
-        if let Err(e) = run(&rt, name.as_str()) {
-            return fail(&rt, name.as_str(), e);
+        if !run_argument(&rt, name.as_str()) {
+            return ExitCode::FAILURE;
         }
     }
     ExitCode::SUCCESS
