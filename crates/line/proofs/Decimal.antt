@@ -8,7 +8,7 @@ use native.Mathlib.Omega.{arith}
 use lib.Dec.{ltb}
 use lib.ListN.{length, length-append}
 use borrow.Author.Tests.{lt-ltb, ltb-true, ltb-false}
-use Rattle.io.specs.Digits.{last_digits, IsDigitCount}
+use Rattle.io.specs.Digits.{last_digits as io_digits, IsDigitCount}
 use Rattle.format.specs.Line.{places, widest, last_digits, decimal}
 
 length_digits : (k n : ℕ) → length (last_digits k n) ≡ k
@@ -16,7 +16,7 @@ length_digits zero n = refl
 length_digits (suc k) n = rw (length-append, length_digits k (n / 10)) (add-one k)
 
 -- the digits that `io` writes, in base 10
-digits_last : (k n : ℕ) → last_digits 10 k n ≡ last_digits k n
+digits_last : (k n : ℕ) → io_digits 10 k n ≡ last_digits k n
 digits_last zero n = refl
 digits_last (suc k) n = rw (digits_last k (n / 10), lt-ltb (n % 10) 10 (omega arith)) refl
 
@@ -65,7 +65,7 @@ module _ (n k : ℕ) (f : IsDigitCount 10 1 n k) (l : n < 10 ^ widest) where
   pub decimal_few : k ≤ widest
   decimal_few = few_digits widest n k f (omega arith) l
 
-  pub decimal_is : last_digits 10 k n ≡ decimal n
+  pub decimal_is : io_digits 10 k n ≡ decimal n
   decimal_is = digits_last k n ∙ ap (λ (j : ℕ). last_digits j n) (sym (places_fewest widest n k f decimal_few))
 
   pub decimal_length : length (decimal n) ≡ k

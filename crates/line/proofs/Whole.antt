@@ -2,7 +2,7 @@
 use mathlib.Core.Path.{◌≡◌, sym, ap, ap₂, ◌∙◌}
 use mathlib.Core.Bool.{Bool, cond}
 use mathlib.Core.List.{List, [], ◌∷◌, ◌++◌, append_assoc, append-nil}
-use Prim.Native.Nat.{ℕ, ◌≤◌, ◌<◌}
+use Prim.Native.Nat.{ℕ, ◌+◌, ◌*◌, ◌≤◌, ◌<◌}
 use native.Mathlib.Nat.{zero-add}
 use native.Mathlib.Omega.{arith}
 use lib.Dec.{eqb}
@@ -23,7 +23,7 @@ use Rattle.format.proofs.Accepting.{tasks_in_hold}
 use Rattle.format.proofs.LoadTests.{load_holds}
 use Rattle.container.proofs.Refusing.{load_number}
 use Rattle.format.specs.Line.{decimal, space, spaced, cells, totals_of, longest, long, line_room, loaded, rest, container_line, line_of}
-use Rattle.lists.proofs.Splice.{Put, put_is}
+use Rattle.lists.proofs.Splice.{Put, put_is, put_next}
 
 -- every input of more than the most bytes has the line `long`, every other its container's line
 pub long_line : (input : List ℕ) → longest < length input → line_of input ≡ long
@@ -77,3 +77,17 @@ module _ (image : List ℕ) where
         ++ spaced (totals_of (container_of Single answer.loaded answer.lists image table))
         ≡ container_line image
     accepted_line none = simp append_assoc (by_test _ (eq-eqb answer.refusal 0 none))
+
+    -- the four texts behind one another, in memory with room for every line
+    pub accepted_put : answer.refusal ≡ 0 → (xs : List ℕ) {ys₁ ys₂ ys₃ ys₄ : List ℕ} {e₁ e₂ e₃ e₄ : ℕ} → Put xs 0 (decimal answer.refusal) ys₁ e₁
+        → Put ys₁ e₁ (space ∷ decimal answer.loaded.head.n) ys₂ e₂
+        → Put ys₂ e₂ (space ∷ decimal answer.loaded.maxchunks) ys₃ e₃
+        → Put ys₃ e₃ (spaced (totals_of (container_of Single answer.loaded answer.lists image table))) ys₄ e₄
+        → (e₁ ≤ 20) × (e₂ ≤ e₁ + 21) × (e₃ ≤ e₂ + 21) × (e₄ ≤ e₃ + 21 * answer.loaded.head.n) → line_room ≤ length xs → length ys₄ ≡ length xs
+        → (ys₄ ≡ splice xs 0 (container_line image)) × (((e₄ ≡ length (container_line image)) × IsPrefixLen e₄ ys₄) × ((e₄ < line_room) × (e₄ < length ys₄)))
+    accepted_put none xs p q r s ends room same =
+        let few = few_tasks image (replicate cells (pos 0)) answer e none in
+        let two = put_next xs 0 (decimal answer.refusal) _ p q (omega (arith, ends, few, room)) in
+        let three = put_next xs 0 _ _ two r (omega (arith, ends, few, room)) in
+        let all = put_next xs 0 _ _ three s (omega (arith, ends, few, room)) in
+        line_put image xs (accepted_line none) (omega (arith, ends, few)) (omega (arith, room, same)) all

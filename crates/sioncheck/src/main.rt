@@ -2,27 +2,35 @@
 #![tactic(auto)]
 
 use line::LINE;
+use std::io::Result;
+use std::process::ExitCode;
 use streams::input::INPUT;
 use streams::{input, output};
 
 // The line and its end go out in one write.
-fn print_line(input: &[u8]) {
+fn print_line(rt: &HostRuntime, input: &[u8]) -> Result<()> {
     let mut out = [0u8; LINE];
     let k = line::line(input, &mut out);
     out[k] = b'\n';
-    if !output::write_text(libc::STDOUT_FILENO, &out[..k + 1]) {
-        os::fail(b"sioncheck: standard output");
-    }
+    output::write_text(&mut rt.stdout(), &out[..k + 1])
+}
+
+// What failed is said on standard error; that this cannot be written either changes nothing.
+fn fail(rt: &HostRuntime, what: &str, why: std::io::Error) -> ExitCode {
+    let _ = output::fail(rt, what, why);
+    ExitCode::FAILURE
 }
 
 // Nothing is judged that was not read: a read that fails is said on standard error, and no line is printed.
-fn main() {
+fn main(rt: HostRuntime) -> ExitCode {
     let mut buf = [0u8; INPUT];
-    let read = input::read_input(libc::STDIN_FILENO, &mut buf);
-    if read.failed {
-        os::fail(b"sioncheck: standard input");
-        return;
+    let read = input::read_input(&mut rt.stdin(), &mut buf);
+    if let Some(e) = read.failed {
+        return fail(&rt, "sioncheck: standard input", e);
     }
     let count = read.count;
-    print_line(&buf[..count]);
+    match print_line(&rt, &buf[..count]) {
+        Ok(()) => ExitCode::SUCCESS,
+        Err(e) => fail(&rt, "sioncheck: standard output", e),
+    }
 }

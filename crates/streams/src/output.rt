@@ -1,38 +1,61 @@
 // A text written whole to a file or to standard output.
-ghost use Rattle.std.specs.Prelude.{◌≡◌, true, ◌≤◌, length};
+ghost use Rattle.std.specs.Prelude.{◌≡◌, ◌≤◌, length, take, IfOk, IsOk, OnOk};
+ghost use Rattle.std.specs.Io.{StartsWith};
+ghost use Rattle.std.specs.Io.KnownBytes.{Appends};
 
 use crate::AGAIN;
+use std::io::{Error, ErrorKind, Result, Write};
 
-// One write: how many bytes it took, 0 where it failed. One that a signal interrupts is made again.
-fn write_some(fd: i32, part: &[u8]) -> usize
-    ensures { result ≤ length part.now }
+// One write: how many bytes it took. One that a signal interrupts is made again.
+fn write_some<W: Write>(to: &mut W, part: &[u8]) -> Result<usize>
+    ensures fits { IfOk result (λ n. n ≤ length part.now) }
+    ensures bytes { IfOk result (λ n. Appends (W.contents to.old) (W.contents to.new) (take n part.now)) }
 {
     let mut tries = AGAIN;
     while 0 < tries {
-        let put = libc::write(fd, part);
-        if put >= 0 {
-            return io::count(put, part);
-        }
-        if os::errno() != libc::EINTR {
-            return 0;
+        match to.write(part) {
+            Ok(n) => return Ok(n),
+            Err(e) => {
+                if e.kind() != ErrorKind::Interrupted {
+                    return Err(e);
+                }
+            }
         }
         tries -= 1;
     }
-    0
+    Err(Error::from(ErrorKind::Interrupted))
 }
 
 // Whether all of text was written: in one write where the system takes it whole, in more only after a short one, and not where one failed or
-// took nothing. What a write of the system moves is open: only that an empty text counts as written is promised.
-pub fn write_text(fd: i32, text: &[u8]) -> bool
-    ensures { length text.now ≡ 0 → result ≡ true }
+// took nothing. What a write of the system moves is open: only that an empty text counts as written is promised. A writer whose bytes are known
+// has text behind them then.
+pub fn write_text<W: Write>(to: &mut W, text: &[u8]) -> Result<()>
+    ensures empty { length text.now ≡ 0 → IsOk result }
+    ensures bytes { OnOk result (Appends (W.contents to.old) (W.contents to.new) text.now) }
 {
     let mut done = 0;
     while done < text.len() {
-        let put = write_some(fd, &text[done..]);
+        let put = write_some(to, &text[done..])?;
         if put == 0 {
-            return false;
+            return Err(Error::from(ErrorKind::WriteZero));
         }
         done += put;
     }
-    true
+    Ok(())
+}
+
+// The system's own words for an error: what stands before the bracket with its number.
+fn words(text: &str) -> &str
+    ensures { StartsWith text.now result.now }
+{
+    match text.split_once(" (os error ") {
+        Some((words, _)) => words,
+        None => text,
+    }
+}
+
+// Says on standard error what failed, and why in the system's words.
+pub fn fail<R: Eprint + Alloc>(rt: &R, what: &str, why: Error) -> Result<()> {
+    let text = format!(in rt.alloc(); "{why}")?;
+    eprintln!(rt; "{what}: {}", words(text.as_str()))
 }

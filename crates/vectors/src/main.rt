@@ -7,6 +7,10 @@ ghost use Rattle.io.specs.Counts.{IsPrefixLen};
 use format::head::LISTS;
 use format::loaded::Loaded;
 use line::LINE;
+use std::env;
+use std::fs::File;
+use std::io::Result;
+use std::process::ExitCode;
 use streams::input::{INPUT, LONGEST};
 use streams::{input, output};
 
@@ -126,19 +130,17 @@ fn add_stream(
     sum
 }
 
-fn print(text: &[u8]) {
-    output::write_text(libc::STDOUT_FILENO, text);
+// What cannot be written is left out: the lines are compared with those that are wanted.
+fn print(rt: &HostRuntime, text: &[u8]) {
+    let _ = output::write_text(&mut rt.stdout(), text);
 }
 
-fn print_sum(sum: Sum) {
-    io::print_hex(
-        libc::STDOUT_FILENO,
-        sum.b % ADLER * 65_536 + sum.a % ADLER,
-        8,
-    );
+fn print_sum(rt: &HostRuntime, sum: Sum) {
+    let n = sum.b % ADLER * 65_536 + sum.a % ADLER;
+    let _ = print!(rt; "{n:08x}");
 }
 
-fn print_sums(l: Loaded, lists: &[u64; LISTS], image: &[u8], table: &[i64]) {
+fn print_sums(rt: &HostRuntime, l: Loaded, lists: &[u64; LISTS], image: &[u8], table: &[i64]) {
     let n = l.head.n as u64;
     let mut parts = Sum { a: 1, b: 0 };
     let mut streams = Sum { a: 1, b: 0 };
@@ -148,10 +150,10 @@ fn print_sums(l: Loaded, lists: &[u64; LISTS], image: &[u8], table: &[i64]) {
         streams = add_stream(streams, l, lists, image, table, task + 1);
         task += 1;
     }
-    print(b" | ");
-    print_sum(parts);
-    print(b" ");
-    print_sum(streams);
+    print(rt, b" | ");
+    print_sum(rt, parts);
+    print(rt, b" ");
+    print_sum(rt, streams);
 }
 
 // One cell fewer than the values of a container, or none.
@@ -160,74 +162,74 @@ fn one_fewer(n: u32, maxchunks: u32) -> usize {
     if values == 0 { 0 } else { values - 1 }
 }
 
-fn print_short(image: &[u8], table: &mut [i64], cells: usize) {
+fn print_short(rt: &HostRuntime, image: &[u8], table: &mut [i64], cells: usize) {
     if table.len() < cells {
         return;
     }
     let answer = container::load(image, &mut table[..cells]);
-    print(b" ");
-    io::print_decimal(libc::STDOUT_FILENO, answer.refusal as u64);
+    let _ = print!(rt; " {}", answer.refusal);
 }
 
 // The line about an input.
-fn print_line(input: &[u8]) {
+fn print_line(rt: &HostRuntime, input: &[u8]) {
     let mut out = [0u8; LINE];
     let k = line::line(input, &mut out);
-    print(&out[..k]);
+    print(rt, &out[..k]);
 }
 
 // What is printed of an accepted container behind its line, and nothing of any other.
-fn print_container(image: &[u8]) {
+fn print_container(rt: &HostRuntime, image: &[u8]) {
     let mut table = [0i64; CELLS];
     let answer = container::load(image, &mut table);
     if answer.refusal == 0 {
         let l = answer.loaded;
         let lists = answer.lists;
-        print_sums(l, &lists, image, &table);
-        print_short(image, &mut table, one_fewer(l.head.n, l.maxchunks));
+        print_sums(rt, l, &lists, image, &table);
+        print_short(rt, image, &mut table, one_fewer(l.head.n, l.maxchunks));
     }
 }
 
-// Whether the file could be opened and read.
-fn run(name: &[u8]) -> bool {
+// Prints what is said of a file, or says why it cannot be opened or read.
+fn run(rt: &HostRuntime, name: &str) -> Result<()> {
     let mut buf = [0u8; INPUT];
-    let fd = os::open_read(name);
-    if fd < 0 {
-        os::fail(name);
-        return false;
+    let mut file = File::open(rt, name)?;
+    let read = input::read_input(&mut file, &mut buf);
+    if let Some(e) = read.failed {
+        return Err(e);
     }
-    let read = input::read_input(fd, &mut buf);
-    libc::close(fd);
-    if read.failed {
-        os::fail(name);
-        return false;
-    }
-    print(name);
-    print(b": ");
     let count = read.count;
-    print_line(&buf[..count]);
+    print(rt, name.as_bytes());
+    print(rt, b": ");
+    print_line(rt, &buf[..count]);
     if count <= LONGEST {
-        print_container(&buf[..count]);
+        print_container(rt, &buf[..count]);
     }
-    print(b"\n");
+    print(rt, b"\n");
+    Ok(())
+}
+
+// Whether the file that an argument names could be run; if not, why is said on standard error.
+fn run_argument(rt: &HostRuntime, name: &str) -> bool {
+    if let Err(e) = run(rt, name) {
+        let _ = output::fail(rt, name, e);
+        return false;
+    }
     true
 }
 
-// Whether argument i is there whole, and its file could be run.
-fn run_argument(i: usize) -> bool {
-    let mut name = io::buffer();
-    let length = os::arg(i, &mut name);
-    if os::errno() != 0 {
-        os::fail(b"vectors: argument");
-        return false;
+// The first file that cannot be run is the last that is tried.
+fn main(rt: HostRuntime) -> ExitCode {
+    let names = match env::args(&rt) {
+        Ok(names) => names,
+        Err(e) => {
+            let _ = output::fail(&rt, "vectors: argument", e);
+            return ExitCode::FAILURE;
+        }
+    };
+    for name in names.skip(1) {
+        if !run_argument(&rt, name.as_str()) {
+            return ExitCode::FAILURE;
+        }
     }
-    run(&name[..length])
-}
-
-fn main() {
-    let count = os::arg_count();
-    let mut i = 1;
-    while i < count && run_argument(i) {
-        i += 1;
-    }
+    ExitCode::SUCCESS
 }
