@@ -1,6 +1,6 @@
 -- Closing a session (document 01, "Closing writes META2 ..."): its tests, and what an accepted and a refused close leave. The lists and the table
 -- stay as they are in either case.
-use Rattle.std.specs.Prelude.{cond, List, [], ◌∷◌, ℕ, eqb, ℤ, length}
+use Rattle.std.specs.Prelude.{cond, List, [], ◌∷◌, ℕ, eqb, ℤ}
 use Rattle.lists.specs.Below.{greatest_below}
 use Rattle.lists.specs.Stores.{Store, store, applied, found}
 use Rattle.format.specs.declared.head.Head.{Head}

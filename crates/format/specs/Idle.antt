@@ -1,6 +1,6 @@
 -- W-209, "Idle tasks from format number 4": numbers of our own for both versions, each beside what the rules compute. That the two are the same is
 -- proved in proofs/Numbers.antt.
-use Rattle.std.specs.Prelude.{Bool, true, false, List, [], ◌∷◌, ◌++◌, map, ℕ, ◌+◌, ℤ, pos, negsuc, length, get_or, take, replicate}
+use Rattle.std.specs.Prelude.{Bool, true, false, List, [], ◌∷◌, ◌++◌, map, ℕ, ℤ, pos, negsuc, length, get_or, take, replicate}
 use Rattle.lists.specs.Splice.{splice}
 use Rattle.format.specs.declared.head.File.TheVariants.{Single}
 use Rattle.format.specs.Meta1.{format_field, meta1}

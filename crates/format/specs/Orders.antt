@@ -1,7 +1,7 @@
 -- Document 01, "Order when loading" and the orders of the other entries, row by row: each input fails one test and the next one too, and has one
 -- fault fewer than the input before it. Only the paper's order has every test before its neighbour. Then 17 for each rule that a record can
 -- break. That the rules compute these numbers is proved in proofs/Numbers.antt.
-use Rattle.std.specs.Prelude.{false, List, [], ◌∷◌, ◌++◌, map, ℕ, ◌+◌, ℤ, pos, negsuc, take, drop, replicate}
+use Rattle.std.specs.Prelude.{false, List, [], ◌∷◌, ◌++◌, map, ℕ, ℤ, pos, negsuc, take, drop, replicate}
 use Rattle.lists.specs.Splice.{splice}
 use Rattle.format.specs.declared.head.File.{File}
 use Rattle.format.specs.declared.head.File.TheVariants.{Single, First, Second}

@@ -26,7 +26,7 @@ use Rattle.format.specs.declared.session.Session.{Session}
 use Rattle.format.specs.Session.{State}
 use Rattle.format.specs.Write.{Request, write_refusal, after_write, writes, refusals, accepted}
 use Rattle.format.proofs.Outcomes.{refused_keeps, empty_keeps}
-use Rattle.format.specs.Tally.{Terms, Tally, Tallies, count_by, outcome, outcome_in, answer_to, afterwards, feed, fed_of, offset_in, Outcome, empty, stays, moves}
+use Rattle.format.specs.Tally.{Terms, Tally, Tallies, count_by, outcome, outcome_in, answer_to, afterwards, feed, fed_of, offset_in, Outcome, stays, moves}
 use Rattle.tally.proofs.Cases.{View, is_refused, is_empty, is_stays, is_moves, refused_some, view, feed_same, feed_other}
 use Rattle.tally.proofs.Counts.{count_begun, count_over, count_next, fresh_apart}
 use Rattle.tally.proofs.Places.{Layout, InChunk, Taken, stored_ways, stored_in, fits_of, kept, length_after}

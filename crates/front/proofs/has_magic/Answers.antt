@@ -1,12 +1,8 @@
 -- The loop's invariant: the bytes passed are the magic number's. The measure is the bytes left.
-use Prim.Native.Nat.{◌≤◌, ◌-◌}
-use mathlib.Core.Path.{◌≡◌}
-use mathlib.Core.Bool.{true}
 use borrow.Author.Rules.{rules}
 use borrow.Author.Tests.{eq-eqb, ne_eqb}
 use lib.Dec.{eqb}
 use lib.ListN.{length, get_or}
-use Rattle.lists.specs.Below.{all_below}
 use Rattle.lists.proofs.Below.{all_none, all_more, all_end, all_fails}
 use Rattle.format.specs.Meta1.{magic}
 use Rattle.format.specs.Judge.{magic_in}

@@ -1,7 +1,6 @@
 -- The big order is known, and the little one is read where it is not.
 use mathlib.Core.Path.{sym, ◌∙◌}
 use mathlib.Core.Bool.{or-true, or-false}
-use native.Mathlib.Omega.{arith}
 use Rattle.format.specs.Judge.{ordered_in}
 use Rattle.front.proofs.has_order.Goals as goal
 

@@ -1,4 +1,3 @@
-use native.Mathlib.Omega.{arith}
 use Rattle.format.specs.Judge.{big_in}
 use Rattle.front.proofs.is_big.Goals as goal
 

@@ -7,7 +7,7 @@ use lib.ListN.{length}
 use mir.Syntax.{w32}
 use mir.Val.{bool_byte}
 use mir.Facts.{to_z-of_z}
-use borrow.Author.Rules.{rules, sfits_of}
+use borrow.Author.Rules.{rules}
 use Rattle.format.specs.Layout.{meta1_end}
 use Rattle.format.specs.Refusals.{first_failing}
 use Rattle.format.specs.Meta1.{fixed_length}

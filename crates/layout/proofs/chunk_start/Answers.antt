@@ -1,7 +1,6 @@
 -- The start of the data, the tasks before and the rounds before are each small.
 use Prim.Native.Nat.{◌-◌}
 use native.Mathlib.Omega.{arith}
-use borrow.Author.Rules.{rules}
 use Rattle.format.specs.Layout.{chunk_start}
 use Rattle.format.proofs.Bounds.{sound_fewer, data_start_small, extended_before_small, rounds_small}
 use Rattle.layout.proofs.chunk_start.Goals as goal

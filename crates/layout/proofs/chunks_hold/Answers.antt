@@ -1,12 +1,8 @@
 -- The loop's invariant: what a chunk holds of the first i tasks is spliced into the list's start. The measure is the tasks left.
-use Prim.Native.Nat.{ℕ, ◌≤◌, ◌-◌}
-use mathlib.Core.Path.{◌≡◌, refl, ap, ◌∙◌}
-use native.Mathlib.Nat.{le_antisymm}
+use mathlib.Core.Path.{refl}
 use native.Mathlib.Omega.{arith}
 use borrow.Author.Rules.{rules}
-use lib.ListN.{length, get_or}
-use Rattle.lists.specs.Below.{list_below}
-use Rattle.lists.specs.Splice.{splice}
+use lib.ListN.{get_or}
 use Rattle.lists.proofs.Splice.{splice_none, splice_more}
 use Rattle.format.specs.Layout.{capacity}
 use Rattle.format.proofs.Bounds.{sound_size}

@@ -1,15 +1,10 @@
 -- The loop's invariant: what a chunk holds of the first i tasks is spliced into the list's start. The measure is the tasks left.
-use Prim.Native.Nat.{ℕ, ◌≤◌, ◌-◌}
-use mathlib.Core.Path.{◌≡◌, refl, ap, ◌∙◌}
-use native.Mathlib.Nat.{le_antisymm}
-use native.Mathlib.Omega.{arith}
-use borrow.Author.Rules.{rules}
+use Prim.Native.Nat.{◌≤◌, ◌-◌}
+use mathlib.Core.Path.{◌≡◌}
 use lib.ListN.{length, get_or}
 use Rattle.lists.specs.Below.{list_below}
 use Rattle.lists.specs.Splice.{splice}
-use Rattle.lists.proofs.Splice.{splice_none, splice_more}
 use Rattle.format.specs.Layout.{capacity}
-use Rattle.format.proofs.Bounds.{sound_size}
 use Rattle.layout.proofs.chunks_hold.Given as goal
 
 abbrev pub invariant-loop-i : goal.invariant-loop-i

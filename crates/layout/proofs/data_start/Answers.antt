@@ -1,7 +1,6 @@
 -- META1's end is small enough to be rounded.
 use mathlib.Core.Path.{◌∙◌, ap}
 use native.Mathlib.Omega.{arith}
-use borrow.Author.Rules.{rules}
 use Rattle.format.specs.Layout.{meta1_end, round_up, data_start}
 use Rattle.layout.proofs.data_start.Goals as goal
 

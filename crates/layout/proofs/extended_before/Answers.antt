@@ -1,11 +1,8 @@
 -- The loop's invariant: `sum` is what the tasks passed add up to. The measure is the tasks left.
-use Prim.Native.Nat.{◌≤◌, ◌-◌}
-use mathlib.Core.Path.{◌≡◌, ap, sym, ◌∙◌}
-use native.Mathlib.Nat.{le_antisymm}
+use mathlib.Core.Path.{sym}
 use native.Mathlib.Omega.{arith}
 use borrow.Author.Rules.{rules}
 use lib.ListN.{get_or}
-use Rattle.format.specs.Layout.{extended_before}
 use Rattle.format.proofs.Bounds.{sound_size, extended_before_small}
 use Rattle.format.proofs.Chunks.{extended_before_none, extended_before_more, extended_before_step}
 use Rattle.layout.proofs.extended_before.Goals as goal

@@ -1,4 +1,3 @@
-use borrow.Author.Rules.{rules}
 use Rattle.format.specs.Layout.{globalskip}
 use Rattle.layout.proofs.global_skip.Goals as goal
 

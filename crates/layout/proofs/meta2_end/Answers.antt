@@ -1,6 +1,5 @@
 -- META2's start and length add up to a small number.
 use native.Mathlib.Omega.{arith}
-use borrow.Author.Rules.{rules}
 use Rattle.format.specs.Layout.{meta2_end}
 use Rattle.format.proofs.Chunks.{meta2_end_small}
 use Rattle.layout.proofs.meta2_end.Goals as goal

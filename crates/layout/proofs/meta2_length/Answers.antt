@@ -1,9 +1,6 @@
 -- The product is small.
 use mathlib.Core.Path.{refl}
-use native.Mathlib.Omega.{arith}
-use borrow.Author.Rules.{rules}
 use Rattle.format.specs.Layout.{meta2_length}
-use Rattle.format.proofs.Bounds.{meta2_length_small}
 use Rattle.layout.proofs.meta2_length.Goals as goal
 
 pub returns : goal.returns

@@ -1,6 +1,5 @@
 -- The start of the data and the rounds of chunks are each small.
 use native.Mathlib.Omega.{arith}
-use borrow.Author.Rules.{rules}
 use Rattle.format.specs.Layout.{meta2_start}
 use Rattle.format.proofs.Bounds.{data_start_small, rounds_small}
 use Rattle.layout.proofs.meta2_start.Goals as goal

@@ -1,7 +1,6 @@
 -- Blocksize is 2 to the number of its trailing zeros, so the shifts round by it, and nothing is shifted out.
 use native.Mathlib.Omega.{arith}
-use borrow.Author.Rules.{rules}
-use lib.Count.{count_trailing_zeros, trailing_le}
+use lib.Count.{count_trailing_zeros}
 use Rattle.format.proofs.Bounds.{round_up_small}
 use Rattle.format.proofs.Power.{blocksize_facts, blocksize_power}
 use Rattle.format.proofs.Rounding.{round_up_shifts}

@@ -3,10 +3,8 @@ use mathlib.Core.Path.{◌≡◌, ap, ap₂, sym, ◌∙◌}
 use mathlib.Core.Bool.{true}
 use Prim.Native.Nat.{ℕ, ◌+◌, ◌≤◌, ◌<◌, ◌^◌}
 use native.Mathlib.Omega.{arith}
-use borrow.Author.Rules.{rules}
 use lib.IntN.{pos}
 use lib.ListN.{length}
-use Rattle.lists.proofs.Below.{test_fails, test_holds}
 use Rattle.endian.specs.Number.{number_at}
 use Rattle.endian.specs.Signed.{signed}
 use Rattle.format.specs.declared.fault.Verdict.{Verdict}
@@ -38,190 +36,155 @@ unfolding meta1_end
 get_u64-start-requires c =
     let long : meta1_end c.args.h.n ≤ length c.args.xs.now = let few = c.requires.sound.tasks in
     c.requires.head.covers (meta1_end c.args.h.n) c.requires.head.long (omega arith) in
-    let l = c in omega (arith, long, l.last_at-at.ensures)
+    omega (arith, long, c.last_at-at.ensures)
 
 pub returns-then-says-eq0 : goal.returns-then-says-eq0
 returns-then-says-eq0 c =
-    let start_at : c.get_u64-start.result.at ≡ start_at = (λ i. (c.get_u64-start.ensures i).at) ∙ ap (λ (at : ℕ). at + 4) c.last_at-at.ensures in
+    let start_here : c.get_u64-start.result.at ≡ start_at c.args.h.n =
+    (λ i. (c.get_u64-start.ensures i).at) ∙ ap (λ (at : ℕ). at + 4) c.last_at-at.ensures in
     let read : let a = c.args in
-    LastRead a.xs.now a.len a.h a.sizes.now c.get_u32-maxchunks.result.value c.get_u64-start.result.value = let l = c in
-    let a = c.args in
-    let at = l.last_at-at.result in
+    LastRead a.xs.now a.len a.h a.sizes.now c.get_u32-maxchunks.result.value c.get_u64-start.result.value = let a = c.args in
+    let at = c.last_at-at.result in
     let m : c.get_u32-maxchunks.result.value ≡ number_at (is_big a.h) 4 a.xs.now at = λ i. (c.get_u32-maxchunks.ensures i).value in
     let first : c.get_u64-start.result.value ≡ number_at (is_big a.h) 8 a.xs.now (at + 4) = λ i. (c.get_u64-start.ensures i).value in
     record {
       passed = c.requires;
-      maxchunks_is = m ∙ ap (number_at (is_big a.h) 4 a.xs.now) l.last_at-at.ensures;
-      start_is = first ∙ ap (λ (at : ℕ). number_at (is_big a.h) 8 a.xs.now (at + 4)) l.last_at-at.ensures;
+      maxchunks_is = m ∙ ap (number_at (is_big a.h) 4 a.xs.now) c.last_at-at.ensures;
+      start_is = first ∙ ap (λ (at : ℕ). number_at (is_big a.h) 8 a.xs.now (at + 4)) c.last_at-at.ensures;
     } in
-    let t = c in
-    let g = t in
     c.bad_start.ensures
-    ∙ (λ i. none (record { refusal = 10; fault = number_fault Kinds.start (start_at i) (signed 63 g.get_u64-start.result.value) 1 max_start }))
-    ∙ not_closed read t.if-says-eq0.true
+    ∙ (λ i. none (record { refusal = 10; fault = number_fault Kinds.start (start_here i) (signed 63 c.get_u64-start.result.value) 1 max_start }))
+    ∙ not_closed read c.if-says-eq0.true
 
 pub returns-then-not-maxchunks_ok : goal.returns-then-not-maxchunks_ok
 returns-then-not-maxchunks_ok c =
     let maxchunks_at : c.get_u32-maxchunks.result.at ≡ last_at c.args.h.n = (λ i. (c.get_u32-maxchunks.ensures i).at) ∙ c.last_at-at.ensures in
     let read : let a = c.args in
-    LastRead a.xs.now a.len a.h a.sizes.now c.get_u32-maxchunks.result.value c.get_u64-start.result.value = let l = c in
-    let a = c.args in
-    let at = l.last_at-at.result in
+    LastRead a.xs.now a.len a.h a.sizes.now c.get_u32-maxchunks.result.value c.get_u64-start.result.value = let a = c.args in
+    let at = c.last_at-at.result in
     let m : c.get_u32-maxchunks.result.value ≡ number_at (is_big a.h) 4 a.xs.now at = λ i. (c.get_u32-maxchunks.ensures i).value in
     let first : c.get_u64-start.result.value ≡ number_at (is_big a.h) 8 a.xs.now (at + 4) = λ i. (c.get_u64-start.ensures i).value in
     record {
       passed = c.requires;
-      maxchunks_is = m ∙ ap (number_at (is_big a.h) 4 a.xs.now) l.last_at-at.ensures;
-      start_is = first ∙ ap (λ (at : ℕ). number_at (is_big a.h) 8 a.xs.now (at + 4)) l.last_at-at.ensures;
+      maxchunks_is = m ∙ ap (number_at (is_big a.h) 4 a.xs.now) c.last_at-at.ensures;
+      start_is = first ∙ ap (λ (at : ℕ). number_at (is_big a.h) 8 a.xs.now (at + 4)) c.last_at-at.ensures;
     } in
-    let t = c in
-    let m = t in
-    let g = m in
     c.no_last.ensures
     ∙ (λ i. none (c.number4.ensures i))
     ∙ (λ i. none (record {
       refusal = 11;
-      fault = number_fault Kinds.maxchunks (maxchunks_at i) (signed 31 g.get_u32-maxchunks.result.value) 0 max_blocks;
+      fault = number_fault Kinds.maxchunks (maxchunks_at i) (signed 31 c.get_u32-maxchunks.result.value) 0 max_blocks;
     }))
-    ∙ bad_maxchunks read m.if-says-eq0.false (test_fails m.maxchunks_ok.ensures t.if-not-maxchunks_ok.true-raw)
+    ∙ bad_maxchunks read c.if-says-eq0.false (sym c.maxchunks_ok.ensures ∙ c.if-not-maxchunks_ok.true)
 
 pub meta2_start-place-requires : goal.meta2_start-place-requires
 meta2_start-place-requires c =
-    let counted : maxchunks_rule (pos c.get_u32-maxchunks.result.value) ≡ true = test_holds c.maxchunks_ok.ensures c.if-not-maxchunks_ok.false-raw in
-    let g = c in
+    let counted : maxchunks_rule (pos c.get_u32-maxchunks.result.value) ≡ true = sym c.maxchunks_ok.ensures ∙ c.if-not-maxchunks_ok.false in
     (c.requires.sound, maxchunks_facts _ counted)
 
 pub bad_start-requires-then-says-place : goal.bad_start-requires-then-says-place
 unfolding meta2_at meta2_end
 bad_start-requires-then-says-place c =
-    let found : let g = c in
-    let a = c.args in
-    c.meta2_start-place.result ≡ meta2_at a.h (entry a.sizes.now) g.get_u32-maxchunks.result.value = c.meta2_start-place.ensures in
-    let counted : maxchunks_rule (pos c.get_u32-maxchunks.result.value) ≡ true = test_holds c.maxchunks_ok.ensures c.if-not-maxchunks_ok.false-raw in
-    let small : c.meta2_start-place.result < 2 ^ 63 = let e = c in
-    let g = e in
-    omega (arith, found, meta2_end_small c.requires.sound _ (maxchunks_facts _ counted)) in
+    let found : let a = c.args in
+    c.meta2_start-place.result ≡ meta2_at a.h (entry a.sizes.now) c.get_u32-maxchunks.result.value = c.meta2_start-place.ensures in
+    let counted : maxchunks_rule (pos c.get_u32-maxchunks.result.value) ≡ true = sym c.maxchunks_ok.ensures ∙ c.if-not-maxchunks_ok.false in
+    let small : c.meta2_start-place.result < 2 ^ 63 = omega (arith, found, meta2_end_small c.requires.sound _ (maxchunks_facts _ counted)) in
     (small, small)
 
 pub returns-then-says-place : goal.returns-then-says-place
 unfolding meta2_at
 returns-then-says-place c =
-    let start_at : c.get_u64-start.result.at ≡ start_at = (λ i. (c.get_u64-start.ensures i).at) ∙ ap (λ (at : ℕ). at + 4) c.last_at-at.ensures in
-    let found : let g = c in
-    let a = c.args in
-    c.meta2_start-place.result ≡ meta2_at a.h (entry a.sizes.now) g.get_u32-maxchunks.result.value = c.meta2_start-place.ensures in
+    let start_here : c.get_u64-start.result.at ≡ start_at c.args.h.n =
+    (λ i. (c.get_u64-start.ensures i).at) ∙ ap (λ (at : ℕ). at + 4) c.last_at-at.ensures in
+    let found : let a = c.args in
+    c.meta2_start-place.result ≡ meta2_at a.h (entry a.sizes.now) c.get_u32-maxchunks.result.value = c.meta2_start-place.ensures in
     let read : let a = c.args in
-    LastRead a.xs.now a.len a.h a.sizes.now c.get_u32-maxchunks.result.value c.get_u64-start.result.value = let l = c in
-    let a = c.args in
-    let at = l.last_at-at.result in
+    LastRead a.xs.now a.len a.h a.sizes.now c.get_u32-maxchunks.result.value c.get_u64-start.result.value = let a = c.args in
+    let at = c.last_at-at.result in
     let m : c.get_u32-maxchunks.result.value ≡ number_at (is_big a.h) 4 a.xs.now at = λ i. (c.get_u32-maxchunks.ensures i).value in
     let first : c.get_u64-start.result.value ≡ number_at (is_big a.h) 8 a.xs.now (at + 4) = λ i. (c.get_u64-start.ensures i).value in
     record {
       passed = c.requires;
-      maxchunks_is = m ∙ ap (number_at (is_big a.h) 4 a.xs.now) l.last_at-at.ensures;
-      start_is = first ∙ ap (λ (at : ℕ). number_at (is_big a.h) 8 a.xs.now (at + 4)) l.last_at-at.ensures;
+      maxchunks_is = m ∙ ap (number_at (is_big a.h) 4 a.xs.now) c.last_at-at.ensures;
+      start_is = first ∙ ap (λ (at : ℕ). number_at (is_big a.h) 8 a.xs.now (at + 4)) c.last_at-at.ensures;
     } in
-    let counted : maxchunks_rule (pos c.get_u32-maxchunks.result.value) ≡ true = test_holds c.maxchunks_ok.ensures c.if-not-maxchunks_ok.false-raw in
-    let t = c in
-    let s = t in
-    let e = s in
-    let g = e in
+    let counted : maxchunks_rule (pos c.get_u32-maxchunks.result.value) ≡ true = sym c.maxchunks_ok.ensures ∙ c.if-not-maxchunks_ok.false in
     c.bad_start-then-says-place.ensures
     ∙ (λ i. none (record {
       refusal = 12;
-      fault = number_fault Kinds.start (start_at i) (signed 63 g.get_u64-start.result.value) (found i) (found i);
+      fault = number_fault Kinds.start (start_here i) (signed 63 c.get_u64-start.result.value) (found i) (found i);
     }))
-    ∙ start_wrong read e.if-says-eq0.false counted (λ d. t.if-says-place.true (d ∙ sym found))
+    ∙ start_wrong read c.if-says-eq0.false counted (λ d. c.if-says-place.true (d ∙ sym found))
 
 pub meta2_length-requires : goal.meta2_length-requires
 meta2_length-requires c =
-    let counted : maxchunks_rule (pos c.get_u32-maxchunks.result.value) ≡ true = test_holds c.maxchunks_ok.ensures c.if-not-maxchunks_ok.false-raw in
-    let e = c in
-    let g = e in
+    let counted : maxchunks_rule (pos c.get_u32-maxchunks.result.value) ≡ true = sym c.maxchunks_ok.ensures ∙ c.if-not-maxchunks_ok.false in
     (c.requires.sound.tasks, maxchunks_facts _ counted)
 
 pub overflow_add-end : goal.overflow_add-end
 unfolding end_at meta2_end
 overflow_add-end c =
-    let end : let s = c in
-    let g = s in
-    let a = c.args in
-    c.meta2_start-place.result + c.meta2_length.result ≡ end_at a.h (entry a.sizes.now) g.get_u32-maxchunks.result.value = ap₂ (λ (x y : ℕ). x + y) c.meta2_start-place.ensures c.meta2_length.ensures in
-    let counted : maxchunks_rule (pos c.get_u32-maxchunks.result.value) ≡ true = test_holds c.maxchunks_ok.ensures c.if-not-maxchunks_ok.false-raw in
-    let end_small : c.meta2_start-place.result + c.meta2_length.result < 2 ^ 63 = let e = c in
-    let g = e in
+    let end : let a = c.args in
+    c.meta2_start-place.result + c.meta2_length.result ≡ end_at a.h (entry a.sizes.now) c.get_u32-maxchunks.result.value =
+    ap₂ (λ (x y : ℕ). x + y) c.meta2_start-place.ensures c.meta2_length.ensures in
+    let counted : maxchunks_rule (pos c.get_u32-maxchunks.result.value) ≡ true = sym c.maxchunks_ok.ensures ∙ c.if-not-maxchunks_ok.false in
+    let end_small : c.meta2_start-place.result + c.meta2_length.result < 2 ^ 63 =
     rw end (omega (arith, meta2_end_small c.requires.sound _ (maxchunks_facts _ counted))) in
     omega (arith, end_small)
 
 pub not_as_needed-requires : goal.not_as_needed-requires
 unfolding end_at meta2_end
 not_as_needed-requires c =
-    let end : let s = c in
-    let g = s in
-    let a = c.args in
-    c.meta2_start-place.result + c.meta2_length.result ≡ end_at a.h (entry a.sizes.now) g.get_u32-maxchunks.result.value = ap₂ (λ (x y : ℕ). x + y) c.meta2_start-place.ensures c.meta2_length.ensures in
-    let counted : maxchunks_rule (pos c.get_u32-maxchunks.result.value) ≡ true = test_holds c.maxchunks_ok.ensures c.if-not-maxchunks_ok.false-raw in
-    let end_small : c.meta2_start-place.result + c.meta2_length.result < 2 ^ 63 = let e = c in
-    let g = e in
+    let end : let a = c.args in
+    c.meta2_start-place.result + c.meta2_length.result ≡ end_at a.h (entry a.sizes.now) c.get_u32-maxchunks.result.value =
+    ap₂ (λ (x y : ℕ). x + y) c.meta2_start-place.ensures c.meta2_length.ensures in
+    let counted : maxchunks_rule (pos c.get_u32-maxchunks.result.value) ≡ true = sym c.maxchunks_ok.ensures ∙ c.if-not-maxchunks_ok.false in
+    let end_small : c.meta2_start-place.result + c.meta2_length.result < 2 ^ 63 =
     rw end (omega (arith, meta2_end_small c.requires.sound _ (maxchunks_facts _ counted))) in
     (omega (arith, end_small), end_small)
 
 pub returns-then-len-end : goal.returns-then-len-end
 unfolding end_at meta2_end meta2_at
 returns-then-len-end c =
-    let end : let s = c in
-    let g = s in
-    let a = c.args in
-    c.meta2_start-place.result + c.meta2_length.result ≡ end_at a.h (entry a.sizes.now) g.get_u32-maxchunks.result.value = ap₂ (λ (x y : ℕ). x + y) c.meta2_start-place.ensures c.meta2_length.ensures in
+    let end : let a = c.args in
+    c.meta2_start-place.result + c.meta2_length.result ≡ end_at a.h (entry a.sizes.now) c.get_u32-maxchunks.result.value =
+    ap₂ (λ (x y : ℕ). x + y) c.meta2_start-place.ensures c.meta2_length.ensures in
     let read : let a = c.args in
-    LastRead a.xs.now a.len a.h a.sizes.now c.get_u32-maxchunks.result.value c.get_u64-start.result.value = let l = c in
-    let a = c.args in
-    let at = l.last_at-at.result in
+    LastRead a.xs.now a.len a.h a.sizes.now c.get_u32-maxchunks.result.value c.get_u64-start.result.value = let a = c.args in
+    let at = c.last_at-at.result in
     let m : c.get_u32-maxchunks.result.value ≡ number_at (is_big a.h) 4 a.xs.now at = λ i. (c.get_u32-maxchunks.ensures i).value in
     let first : c.get_u64-start.result.value ≡ number_at (is_big a.h) 8 a.xs.now (at + 4) = λ i. (c.get_u64-start.ensures i).value in
     record {
       passed = c.requires;
-      maxchunks_is = m ∙ ap (number_at (is_big a.h) 4 a.xs.now) l.last_at-at.ensures;
-      start_is = first ∙ ap (λ (at : ℕ). number_at (is_big a.h) 8 a.xs.now (at + 4)) l.last_at-at.ensures;
+      maxchunks_is = m ∙ ap (number_at (is_big a.h) 4 a.xs.now) c.last_at-at.ensures;
+      start_is = first ∙ ap (λ (at : ℕ). number_at (is_big a.h) 8 a.xs.now (at + 4)) c.last_at-at.ensures;
     } in
-    let counted : maxchunks_rule (pos c.get_u32-maxchunks.result.value) ≡ true = test_holds c.maxchunks_ok.ensures c.if-not-maxchunks_ok.false-raw in
-    let found : let g = c in
-    let a = c.args in
-    c.meta2_start-place.result ≡ meta2_at a.h (entry a.sizes.now) g.get_u32-maxchunks.result.value = c.meta2_start-place.ensures in
-    let t = c in
-    let l = t in
-    let s = l in
-    let e = s in
-    let g = e in
+    let counted : maxchunks_rule (pos c.get_u32-maxchunks.result.value) ≡ true = sym c.maxchunks_ok.ensures ∙ c.if-not-maxchunks_ok.false in
+    let found : let a = c.args in
+    c.meta2_start-place.result ≡ meta2_at a.h (entry a.sizes.now) c.get_u32-maxchunks.result.value = c.meta2_start-place.ensures in
     c.no_last-then-len-end.ensures
     ∙ (λ i. none (c.not_as_needed.ensures i))
     ∙ (λ i. none (record { refusal = 12; fault = end_fault c.args.len (end i) }))
-    ∙ past_end read e.if-says-eq0.false counted (l.if-says-place.false ∙ found) (rw (sym end) t.if-len-end.true)
+    ∙ past_end read c.if-says-eq0.false counted (c.if-says-place.false ∙ found) (rw (sym end) c.if-len-end.true)
 
 pub returns : goal.returns
 unfolding meta2_at end_at meta2_end
 returns c =
     let read : let a = c.args in
-    LastRead a.xs.now a.len a.h a.sizes.now c.get_u32-maxchunks.result.value c.get_u64-start.result.value = let l = c in
-    let a = c.args in
-    let at = l.last_at-at.result in
+    LastRead a.xs.now a.len a.h a.sizes.now c.get_u32-maxchunks.result.value c.get_u64-start.result.value = let a = c.args in
+    let at = c.last_at-at.result in
     let m : c.get_u32-maxchunks.result.value ≡ number_at (is_big a.h) 4 a.xs.now at = λ i. (c.get_u32-maxchunks.ensures i).value in
     let first : c.get_u64-start.result.value ≡ number_at (is_big a.h) 8 a.xs.now (at + 4) = λ i. (c.get_u64-start.ensures i).value in
     record {
       passed = c.requires;
-      maxchunks_is = m ∙ ap (number_at (is_big a.h) 4 a.xs.now) l.last_at-at.ensures;
-      start_is = first ∙ ap (λ (at : ℕ). number_at (is_big a.h) 8 a.xs.now (at + 4)) l.last_at-at.ensures;
+      maxchunks_is = m ∙ ap (number_at (is_big a.h) 4 a.xs.now) c.last_at-at.ensures;
+      start_is = first ∙ ap (λ (at : ℕ). number_at (is_big a.h) 8 a.xs.now (at + 4)) c.last_at-at.ensures;
     } in
-    let counted : maxchunks_rule (pos c.get_u32-maxchunks.result.value) ≡ true = test_holds c.maxchunks_ok.ensures c.if-not-maxchunks_ok.false-raw in
-    let found : let g = c in
-    let a = c.args in
-    c.meta2_start-place.result ≡ meta2_at a.h (entry a.sizes.now) g.get_u32-maxchunks.result.value = c.meta2_start-place.ensures in
-    let end : let s = c in
-    let g = s in
-    let a = c.args in
-    c.meta2_start-place.result + c.meta2_length.result ≡ end_at a.h (entry a.sizes.now) g.get_u32-maxchunks.result.value = ap₂ (λ (x y : ℕ). x + y) c.meta2_start-place.ensures c.meta2_length.ensures in
-    let l = c in
-    let s = l in
-    let e = s in
-    accepted_last read e.if-says-eq0.false counted (l.if-says-place.false ∙ found) c.passes.ensures
+    let counted : maxchunks_rule (pos c.get_u32-maxchunks.result.value) ≡ true = sym c.maxchunks_ok.ensures ∙ c.if-not-maxchunks_ok.false in
+    let found : let a = c.args in
+    c.meta2_start-place.result ≡ meta2_at a.h (entry a.sizes.now) c.get_u32-maxchunks.result.value = c.meta2_start-place.ensures in
+    let end : let a = c.args in
+    c.meta2_start-place.result + c.meta2_length.result ≡ end_at a.h (entry a.sizes.now) c.get_u32-maxchunks.result.value =
+    ap₂ (λ (x y : ℕ). x + y) c.meta2_start-place.ensures c.meta2_length.ensures in
+    accepted_last read c.if-says-eq0.false counted (c.if-says-place.false ∙ found) c.passes.ensures
     (rw (sym end) c.if-len-end.false)

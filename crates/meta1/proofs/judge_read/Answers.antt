@@ -2,7 +2,6 @@
 use mathlib.Core.Path.{◌≡◌, ap, sym, ◌∙◌}
 use Prim.Native.Nat.{ℕ, suc, ◌+◌, ◌*◌, ◌≤◌}
 use native.Mathlib.Omega.{arith}
-use borrow.Author.Rules.{rules}
 use lib.IntN.{pos}
 use lib.ListN.{length}
 use Rattle.endian.specs.Signed.{signed_at}
@@ -11,7 +10,7 @@ use Rattle.format.specs.Limits.{max_size}
 use Rattle.format.specs.Layout.{meta1_end}
 use Rattle.format.specs.Record.{all_lists, is_big}
 use Rattle.format.specs.Refusals.{fault_of}
-use Rattle.format.proofs.Stripes.{length_ranks, length_sizes}
+use Rattle.format.proofs.Stripes.{length_ranks}
 use Rattle.meta1.proofs.Answers.{read_long, bad_rank, bad_size_refused, lists_pass}
 use Rattle.meta1.proofs.judge_read.Goals as goal
 
@@ -30,48 +29,39 @@ unfolding meta1_end
 bad_entry-requires c =
     let whole : meta1_end c.args.h.n ≤ length c.args.xs.now = let few = c.requires.0.few in
     c.requires.0.covers (meta1_end c.args.h.n) c.requires.0.long (omega arith) in
-    let s = c in
-    (omega (arith, whole), omega (arith, s.requires.0.few), omega arith, omega arith)
+    (omega (arith, whole), omega (arith, c.requires.0.few), omega arith, omega arith)
 
 pub returns-then-rank-n : goal.returns-then-rank-n
 returns-then-rank-n c =
-    let t = c in
-    let r = t in
-    let s = c in
-    c.bad_entry.ensures ∙ bad_rank s.requires.0 s.requires.1 r.first_bad_rank-rank.ensures t.if-rank-n.true
+    c.bad_entry.ensures ∙ bad_rank c.requires.0 c.requires.1 c.first_bad_rank-rank.ensures c.if-rank-n.true
+
+pub slice_bounds-sizes-end : goal.slice_bounds-sizes-end
+slice_bounds-sizes-end c =
+    let long : length c.args.lists.now ≡ all_lists = read_long c.requires.0 c.requires.1 in
+    omega (arith, long)
 
 pub bad_entry-requires-then-size-n : goal.bad_entry-requires-then-size-n
 unfolding meta1_end
 bad_entry-requires-then-size-n c =
     let whole : meta1_end c.args.h.n ≤ length c.args.xs.now = let few = c.requires.0.few in
     c.requires.0.covers (meta1_end c.args.h.n) c.requires.0.long (omega arith) in
-    let s = c in
-    (omega (arith, whole, c.sizes_at.ensures), omega (arith, s.requires.0.few), omega arith, omega arith)
+    (omega (arith, whole, c.sizes_at.ensures), omega (arith, c.requires.0.few), omega arith, omega arith)
 
 pub returns-then-size-n : goal.returns-then-size-n
 returns-then-size-n c =
-    let t = c in
-    let z = t in
-    let e = z in
-    let r = e in
-    let s = c in
-    let i = z.first_bad_size-size.result in
+    let i = c.first_bad_size-size.result in
     c.bad_entry-then-size-n.ensures
     ∙ ap (λ (at : ℕ). record {
       verdict =
           record {
             refusal = 9;
-            fault = fault_of Kinds.size (suc i) 0 (at + 8 * i) (signed_at (is_big s.args.h) 8 s.args.xs.now (at + 8 * i)) (pos 1) (pos max_size);
+            fault = fault_of Kinds.size (suc i) 0 (at + 8 * i) (signed_at (is_big c.args.h) 8 c.args.xs.now (at + 8 * i)) (pos 1) (pos max_size);
           };
       maxchunks = 0;
       start = 0;
     }) c.sizes_at.ensures
-    ∙ bad_size_refused s.requires.0 s.requires.1 r.first_bad_rank-rank.ensures e.if-rank-n.false z.first_bad_size-size.ensures t.if-size-n.true
+    ∙ bad_size_refused c.requires.0 c.requires.1 c.first_bad_rank-rank.ensures c.if-rank-n.false c.first_bad_size-size.ensures c.if-size-n.true
 
 pub judge_last-requires : goal.judge_last-requires
 judge_last-requires c =
-    let z = c in
-    let e = z in
-    let r = e in
-    let s = c in
-    lists_pass s.requires.0 s.requires.1 r.first_bad_rank-rank.ensures e.if-rank-n.false z.first_bad_size-size.ensures c.if-size-n.false
+    lists_pass c.requires.0 c.requires.1 c.first_bad_rank-rank.ensures c.if-rank-n.false c.first_bad_size-size.ensures c.if-size-n.false

@@ -1,13 +1,9 @@
 -- The loop's invariant: the first i numbers are spliced into the lists. The measure is the numbers left.
-use Prim.Native.Nat.{ℕ, ◌+◌, ◌*◌, ◌≤◌, ◌-◌}
-use mathlib.Core.Path.{◌≡◌, refl, ap, ◌∙◌}
-use native.Mathlib.Nat.{le_antisymm}
+use Prim.Native.Nat.{◌+◌, ◌*◌}
+use mathlib.Core.Path.{refl}
 use native.Mathlib.Omega.{arith}
 use borrow.Author.Rules.{rules}
-use lib.ListN.{length}
-use Rattle.lists.specs.Below.{list_below}
 use Rattle.endian.specs.Number.{number_at}
-use Rattle.lists.specs.Splice.{splice}
 use Rattle.lists.proofs.Splice.{list_none, list_more}
 use Rattle.meta1.proofs.read_stripe.Goals as goal
 

@@ -1,17 +1,13 @@
 -- Each return by the tests that led there.
 use mathlib.Core.Path.{◌≡◌, sym}
 use mathlib.Core.Bool.{false}
-use native.Mathlib.Omega.{arith}
-use native.Mathlib.Nat.{mul-le-mul}
 use lib.Dec.{ltb}
 use lib.ListN.{length}
-use borrow.Author.Rules.{rules}
 use borrow.Author.Tests.{lt-ltb, le-ltb}
 use Rattle.lists.proofs.Below.{test_fails, test_holds}
 use Rattle.format.specs.Layout.{meta2_end}
 use Rattle.format.specs.Refusals.{first_failing}
 use Rattle.format.specs.Record.{size_of, holds, too_short, cells_agree}
-use Rattle.format.proofs.Stripes.{length_counts}
 use Rattle.records.proofs.lent_refusal.Goals as goal
 
 pub returns-then-image-meta2_end : goal.returns-then-image-meta2_end

@@ -2,7 +2,6 @@
 use mathlib.Core.Path.{◌≡◌}
 use mathlib.Core.Bool.{true}
 use native.Mathlib.Omega.{arith}
-use borrow.Author.Rules.{rules}
 use Rattle.lists.proofs.Below.{test_fails, test_holds}
 use Rattle.format.specs.Record.{head_sound}
 use Rattle.format.proofs.Passing.{head_tasks}

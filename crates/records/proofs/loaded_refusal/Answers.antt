@@ -1,6 +1,5 @@
 -- Its two calls, one after the other.
 use mathlib.Core.Path.{sym, ◌∙◌}
-use borrow.Author.Rules.{rules}
 use Rattle.format.proofs.Passing.{head_kept}
 use Rattle.format.specs.Reads.{loaded_tests}
 use Rattle.format.proofs.LoadedRecords.{loaded_holds}

@@ -1,12 +1,10 @@
 -- Each return by the tests that led there.
 use mathlib.Core.Path.{◌≡◌}
 use mathlib.Core.Bool.{true}
-use Prim.Native.Nat.{◌≤◌}
 use lib.Dec.{eqb}
 use borrow.Author.Tests.{eq-eqb, ne_eqb, not-true, not-false}
-use Rattle.format.specs.Limits.{max_blocks, Sound}
 use Rattle.format.specs.Refusals.{first_failing}
-use Rattle.format.specs.Record.{sizes_of, record_tests}
+use Rattle.format.specs.Record.{record_tests}
 use Rattle.records.proofs.record_refusal.Goals as goal
 
 pub returns-then-closed-ne0 : goal.returns-then-closed-ne0

@@ -1,5 +1,4 @@
 use mathlib.Core.Path.{sym, ◌∙◌}
-use borrow.Author.Rules.{rules}
 use Rattle.format.proofs.Passing.{head_kept}
 use Rattle.format.specs.Session.{session_tests}
 use Rattle.format.proofs.Sessions.{session_holds}

@@ -1,16 +1,15 @@
 -- The loop's invariant: the first j cells are stored. The measure is the whole cells left; a part of the next one may follow them.
-use Prim.Native.Nat.{ℕ, ◌-◌, ◌≤◌}
+use Prim.Native.Nat.{ℕ}
 use mathlib.Core.List.{List}
 use mathlib.Core.Path.{◌≡◌, refl, ap, ◌∙◌}
 use native.Mathlib.Nat.{le_antisymm}
 use native.Mathlib.Omega.{arith}
 use borrow.Author.Rules.{rules, sfits_of}
 use lib.IntN.{pos}
-use lib.ListN.{length, get_or}
+use lib.ListN.{get_or}
 use mir.Syntax.{w64}
 use Rattle.lists.specs.Below.{join_below}
 use Rattle.endian.specs.Signed.{signed_digits}
-use Rattle.lists.specs.Splice.{splice}
 use Rattle.endian.proofs.Number.{length_digits}
 use Rattle.lists.proofs.Splice.{join_none, join_then}
 use Rattle.lists.proofs.Stores.{spends_same, runs_whole, runs_cut}
@@ -21,7 +20,7 @@ pub loop-j-init : goal.loop-j-init
 loop-j-init c = let a = c.args in (search rules, refl, join_none a.image.now a.at 8 _ (λ k. length_digits a.big 8 _))
 
 pub loop-j-preserved : goal.loop-j-preserved
-loop-j-preserved c = 
+loop-j-preserved c =
     let x = c in
     let l = x.loop-j in
     let a = x.args in
@@ -34,7 +33,7 @@ loop-j-preserved c =
     )
 
 pub returns-then-whole-cells : goal.returns-then-whole-cells
-returns-then-whole-cells c = 
+returns-then-whole-cells c =
     let within = c in
     let x = within in
     let l = x.loop-j in
@@ -50,7 +49,7 @@ returns-then-whole-cells c =
     (spends_signed a.big w64 8 {z = get_or a.table.now whole (pos 0)} fits within.put_i64_within.ensures)
 
 pub returns : goal.returns
-returns c = 
+returns c =
     let x = c in
     let l = x.loop-j in
     let room = x.whole_numbers-whole.ensures in

@@ -1,14 +1,13 @@
 -- The loop's invariant: the first i values are stored. The measure is the whole values left; a part of the next one may follow them.
-use Prim.Native.Nat.{ℕ, ◌-◌, ◌≤◌}
+use Prim.Native.Nat.{ℕ}
 use mathlib.Core.List.{List}
 use mathlib.Core.Path.{◌≡◌, refl, ap}
 use native.Mathlib.Nat.{le_antisymm}
 use native.Mathlib.Omega.{arith}
 use borrow.Author.Rules.{rules}
-use lib.ListN.{length, get_or}
+use lib.ListN.{get_or}
 use Rattle.lists.specs.Below.{join_below}
 use Rattle.endian.specs.Number.{digits}
-use Rattle.lists.specs.Splice.{splice}
 use Rattle.endian.proofs.Number.{length_digits}
 use Rattle.lists.proofs.Splice.{join_none, join_then}
 use Rattle.lists.proofs.Stores.{spends_same, runs_whole, runs_cut}
@@ -18,7 +17,7 @@ pub loop-i-init : goal.loop-i-init
 loop-i-init c = let a = c.args in (search rules, refl, join_none a.image.now a.at 8 _ (λ j. length_digits a.big 8 _))
 
 pub loop-i-preserved : goal.loop-i-preserved
-loop-i-preserved c = 
+loop-i-preserved c =
     let x = c in
     let l = x.loop-i in
     let a = x.args in
@@ -29,7 +28,7 @@ loop-i-preserved c =
     )
 
 pub returns-then-whole-n : goal.returns-then-whole-n
-returns-then-whole-n c = 
+returns-then-whole-n c =
     let within = c in
     let x = within in
     let l = x.loop-i in
@@ -43,7 +42,7 @@ returns-then-whole-n c =
     (room.next_short within.if-whole-n.true) (omega (arith, z.requires)) (rw all at l.invariant.2) within.put_u64_within.ensures
 
 pub returns : goal.returns
-returns c = 
+returns c =
     let x = c in
     let l = x.loop-i in
     let room = x.whole_numbers-whole.ensures in

@@ -1,17 +1,10 @@
 -- The loop's invariant: the first i values are stored. The measure is the whole values left; a part of the next one may follow them.
-use Prim.Native.Nat.{ℕ, ◌-◌, ◌≤◌}
-use mathlib.Core.List.{List}
-use mathlib.Core.Path.{◌≡◌, refl, ap}
-use native.Mathlib.Nat.{le_antisymm}
-use native.Mathlib.Omega.{arith}
-use borrow.Author.Rules.{rules}
+use Prim.Native.Nat.{◌-◌, ◌≤◌}
+use mathlib.Core.Path.{◌≡◌}
 use lib.ListN.{length, get_or}
 use Rattle.lists.specs.Below.{join_below}
 use Rattle.endian.specs.Number.{digits}
 use Rattle.lists.specs.Splice.{splice}
-use Rattle.endian.proofs.Number.{length_digits}
-use Rattle.lists.proofs.Splice.{join_none, join_then}
-use Rattle.lists.proofs.Stores.{spends_same, runs_whole, runs_cut}
 use Rattle.runs.proofs.put_list.Given as goal
 
 abbrev pub invariant-loop-i : goal.invariant-loop-i

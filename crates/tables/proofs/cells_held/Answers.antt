@@ -1,7 +1,6 @@
 -- The cells of all chunks are one span.
-use Rattle.std.proofs.Common.{mul-le-mul, arith, rules}
+use Rattle.std.proofs.Common.{mul-le-mul, arith}
 use Rattle.format.specs.Record.{cell}
-use Rattle.tables.proofs.Rows.{task_in_row}
 use Rattle.tables.proofs.Held.{held_listed, held_span}
 use Rattle.tables.proofs.cells_held.Goals as goal
 

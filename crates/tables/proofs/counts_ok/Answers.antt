@@ -1,4 +1,3 @@
-use Rattle.std.proofs.Common.{rules}
 use Rattle.lists.proofs.Below.{first_below, first_past}
 use Rattle.format.specs.Meta2.{counts_rule}
 use Rattle.tables.proofs.counts_ok.Goals as goal

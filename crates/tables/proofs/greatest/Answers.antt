@@ -1,7 +1,6 @@
 -- The loop's invariant: `most` is the greatest number passed. The measure is the numbers left.
-use Rattle.std.proofs.Common.{◌≡◌, ◌-◌, ◌≤◌, get_or, sym, ap, ◌∙◌, ⊎_elim, le_antisymm, arith, rules}
+use Rattle.std.proofs.Common.{get_or, sym, ◌∙◌, arith, rules}
 use native.Mathlib.Nat.{max-eq_left, max-eq_right}
-use Rattle.lists.specs.Below.{greatest_below}
 use Rattle.lists.proofs.Below.{greatest_none, greatest_more}
 use Rattle.tables.proofs.greatest.Goals as goal
 use Rattle.tables.proofs.greatest.Goals.{then-most-values, else-most-values}
@@ -17,7 +16,7 @@ loop-i-preserved c =
     let more = greatest_more (λ j. get_or xs j 0) i in (
       search rules,
       elim c.if-most-values.branch [
-        then-most-values w ↦ w.most-is ∙ sym (more ∙ max-eq_right (omega arith))
+        | then-most-values w ↦ w.most-is ∙ sym (more ∙ max-eq_right (omega arith))
         | else-most-values w ↦ w.most-is ∙ all ∙ sym (more ∙ max-eq_left (omega arith))
       ],
     )

@@ -1,8 +1,6 @@
 -- The loop's invariant: `most` is the greatest number passed. The measure is the numbers left.
-use Rattle.std.proofs.Common.{◌≡◌, ◌-◌, ◌≤◌, get_or, sym, ap, ◌∙◌, ⊎_elim, le_antisymm, arith, rules}
-use native.Mathlib.Nat.{max-eq_left, max-eq_right}
+use Rattle.std.proofs.Common.{◌≡◌, ◌-◌, ◌≤◌, get_or}
 use Rattle.lists.specs.Below.{greatest_below}
-use Rattle.lists.proofs.Below.{greatest_none, greatest_more}
 use Rattle.tables.proofs.greatest.Given as goal
 
 abbrev pub invariant-loop-i : goal.invariant-loop-i

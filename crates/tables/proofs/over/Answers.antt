@@ -1,5 +1,5 @@
 -- By the top bits of the three words.
-use Rattle.std.proofs.Common.{◌^◌, Bool, ◌&&◌, ltb, ap, ◌∙◌, rules}
+use Rattle.std.proofs.Common.{◌^◌, Bool, ◌&&◌, ltb, ap, ◌∙◌}
 use mathlib.Core.Bool.{and_assoc}
 use lib.Bits.{bit_or}
 use Rattle.tables.proofs.Values.{or_top, at_most}

@@ -1,7 +1,5 @@
 -- The loop's invariant: no top bit is set exactly where every cell passed keeps its rule. The measure is the tasks left.
-use Rattle.std.proofs.Common.{◌≡◌, ℕ, ◌+◌, ◌-◌, ◌^◌, ◌≤◌, Bool, ◌&&◌, ltb, get_or, ℤ, pos, sym, ap, ◌∙◌, le_antisymm, arith, to_z-of_z, w64, rules}
-use borrow.Author.Rules.{sfits_of}
-use Rattle.lists.specs.Below.{all_below}
+use Rattle.std.proofs.Common.{◌≡◌, ℕ, ◌+◌, ◌^◌, Bool, ◌&&◌, ltb, get_or, ℤ, pos, sym, ap, ◌∙◌, to_z-of_z, w64, rules}
 use Rattle.lists.proofs.Below.{all_none, all_turn}
 use Rattle.format.specs.Meta2.{value_rule}
 use Rattle.tables.proofs.row_ok.Goals as goal

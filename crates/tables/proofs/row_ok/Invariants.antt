@@ -1,8 +1,6 @@
 -- The loop's invariant: no top bit is set exactly where every cell passed keeps its rule. The measure is the tasks left.
-use Rattle.std.proofs.Common.{◌≡◌, ℕ, ◌+◌, ◌-◌, ◌^◌, ◌≤◌, Bool, ◌&&◌, ltb, get_or, ℤ, pos, sym, ap, ◌∙◌, le_antisymm, arith, to_z-of_z, w64, rules}
-use borrow.Author.Rules.{sfits_of}
+use Rattle.std.proofs.Common.{◌≡◌, ◌+◌, ◌-◌, ◌^◌, ◌≤◌, ltb, get_or, pos}
 use Rattle.lists.specs.Below.{all_below}
-use Rattle.lists.proofs.Below.{all_none, all_turn}
 use Rattle.format.specs.Meta2.{value_rule}
 use Rattle.tables.proofs.row_ok.Given as goal
 

@@ -1,12 +1,11 @@
 -- The loop's invariant: every cell passed keeps its rule, and where cells are left, the next one is that of task i and chunk `row`. The measure
 -- is the cells left.
-use Rattle.std.proofs.Common.{◌≡◌, ℕ, ◌+◌, ◌-◌, ◌*◌, ◌<◌, ◌≤◌, Bool, true, arith, rules}
+use Rattle.std.proofs.Common.{◌≡◌, ℕ, ◌+◌, ◌*◌, ◌<◌, ◌≤◌, Bool, arith, rules}
 use Rattle.lists.specs.Below.{all_below}
-use Rattle.lists.proofs.Below.{all_none, all_end, run_holds, run_fails}
+use Rattle.lists.proofs.Below.{all_none, run_holds, run_fails}
 use Rattle.format.specs.Record.{cell}
 use Rattle.tables.specs.Spans.{rule_at}
 use Rattle.tables.proofs.Rows.{row_next, row_placed}
-use Rattle.tables.proofs.Held.{held_fewer}
 use Rattle.tables.proofs.span_ok.Goals as goal
 
 pub loop-at-init : goal.loop-at-init

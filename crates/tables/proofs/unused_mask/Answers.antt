@@ -1,5 +1,4 @@
 -- By the top bit of the count and of the difference.
-use Rattle.std.proofs.Common.{rules}
 use Rattle.tables.proofs.Values.{mask_is}
 use Rattle.tables.proofs.unused_mask.Goals as goal
 

@@ -1,6 +1,5 @@
 -- By the mask. A signed parameter is what the machine reads back from its bits.
-use Rattle.std.proofs.Common.{◌^◌, Bool, ◌&&◌, ltb, ap, ◌∙◌, arith, to_z-of_z, rules}
-use lib.Bits.{bit_xor, and_le_l}
+use Rattle.std.proofs.Common.{◌^◌, Bool, ◌&&◌, ltb, ap, ◌∙◌, to_z-of_z}
 use Rattle.endian.specs.Signed.{bits_of}
 use Rattle.tables.proofs.Values.{masked}
 use Rattle.tables.proofs.value_bad.Goals as goal

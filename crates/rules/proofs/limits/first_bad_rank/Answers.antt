@@ -1,6 +1,5 @@
 use mathlib.Core.Path.{◌∙◌}
 use native.Mathlib.Nat.{le_trans}
-use borrow.Author.Rules.{rules}
 use Rattle.lists.proofs.Below.{first_le, first_both}
 use Rattle.format.specs.Limits.{rank_rule}
 use Rattle.rules.proofs.limits.first_bad_rank.Goals as goal

@@ -1,13 +1,9 @@
 -- The loop's invariant: every number passed is within the bounds. The measure is the numbers left.
-use Prim.Native.Nat.{◌≤◌, ◌-◌}
-use mathlib.Core.Path.{◌≡◌, sym}
-use mathlib.Core.Bool.{true, and-false}
+use mathlib.Core.Path.{sym}
+use mathlib.Core.Bool.{and-false}
 use borrow.Author.Rules.{rules}
 use borrow.Author.Tests.{lt-leb}
-use lib.IntN.{pos}
 use lib.ListN.{get_or}
-use Rattle.lists.specs.Below.{all_below}
-use Rattle.endian.specs.Signed.{within}
 use Rattle.lists.proofs.Below.{all_none, all_more, all_end, first_none, first_at}
 use Rattle.endian.proofs.Signed.{within_holds}
 use Rattle.rules.proofs.limits.first_outside.Goals as goal

@@ -1,13 +1,7 @@
 -- The loop's invariant: every number passed is a new one. The measure is the numbers left.
-use Prim.Native.Nat.{◌≤◌, ◌-◌}
-use mathlib.Core.Path.{◌≡◌, sym}
-use mathlib.Core.Bool.{true}
+use mathlib.Core.Path.{sym}
 use borrow.Author.Rules.{rules}
-use lib.IntN.{pos}
-use lib.ListN.{get_or}
-use Rattle.lists.specs.Below.{all_below}
 use Rattle.lists.proofs.Below.{test_fails, test_holds, all_none, all_more, all_end, first_none, first_at}
-use Rattle.format.specs.Limits.{is_new}
 use Rattle.rules.proofs.limits.first_repeat.Goals as goal
 
 pub loop-i-init : goal.loop-i-init
@@ -19,8 +13,7 @@ returns-then-not-is_new c =
     sym (first_at _ l.i _ (search rules) l.invariant.1 (test_fails c.is_new.ensures c.if-not-is_new.true-raw))
 
 pub loop-i-preserved : goal.loop-i-preserved
-loop-i-preserved c =
-    (
+loop-i-preserved c = (
   search rules,
   all_more _ c.loop-i.i c.loop-i.invariant.1
       (test_holds c.is_new.ensures c.if-not-is_new.false-raw),

@@ -1,12 +1,10 @@
 -- The loop's invariant: every number passed is a new one. The measure is the numbers left.
 use Prim.Native.Nat.{◌≤◌, ◌-◌}
-use mathlib.Core.Path.{◌≡◌, sym}
+use mathlib.Core.Path.{◌≡◌}
 use mathlib.Core.Bool.{true}
-use borrow.Author.Rules.{rules}
 use lib.IntN.{pos}
 use lib.ListN.{get_or}
 use Rattle.lists.specs.Below.{all_below}
-use Rattle.lists.proofs.Below.{test_fails, test_holds, all_none, all_more, all_end, first_none, first_at}
 use Rattle.format.specs.Limits.{is_new}
 use Rattle.rules.proofs.limits.first_repeat.Given as goal
 

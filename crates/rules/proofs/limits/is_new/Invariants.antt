@@ -1,17 +1,11 @@
 -- The loop's invariant: the answer so far is that of the numbers passed. The measure is the numbers left.
-use Prim.Native.Nat.{ℕ, ◌≤◌, ◌-◌}
-use mathlib.Core.Path.{◌≡◌, ap, sym, ◌∙◌}
-use mathlib.Core.Bool.{Bool, not, ◌&&◌}
-use native.Mathlib.Nat.{le_antisymm}
-use native.Mathlib.Numerals.{add-one}
-use borrow.Author.Rules.{rules}
-use lib.Dec.{eqb}
+use Prim.Native.Nat.{◌≤◌, ◌-◌}
+use mathlib.Core.Path.{◌≡◌}
+use mathlib.Core.Bool.{not}
 use lib.IntN.{pos}
 use lib.ListN.{get_or}
 use Rattle.lists.specs.Below.{all_below}
 use Rattle.endian.specs.Signed.{same_z}
-use Rattle.lists.proofs.Below.{all_none}
-use Rattle.format.specs.Limits.{is_new}
 use Rattle.rules.proofs.limits.is_new.Given as goal
 
 abbrev pub invariant-loop-j : goal.invariant-loop-j

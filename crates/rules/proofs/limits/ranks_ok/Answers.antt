@@ -1,5 +1,4 @@
 use mathlib.Core.Path.{sym, ◌∙◌}
-use borrow.Author.Rules.{rules}
 use Rattle.lists.proofs.Below.{all_first}
 use Rattle.format.proofs.Rules.{ranks_each}
 use Rattle.rules.proofs.limits.ranks_ok.Goals as goal

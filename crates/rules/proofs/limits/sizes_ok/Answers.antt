@@ -1,4 +1,3 @@
-use borrow.Author.Rules.{rules}
 use Rattle.lists.proofs.Below.{all_first}
 use Rattle.format.specs.Limits.{sizes_rule}
 use Rattle.rules.proofs.limits.sizes_ok.Goals as goal

@@ -1,16 +1,15 @@
 -- As far as the budget goes, or the whole part.
 use mathlib.Core.Path.{sym, ap, ◌∙◌}
-use Prim.Native.Nat.{ℕ, ◌-◌, ◌≤◌}
+use Prim.Native.Nat.{ℕ, ◌≤◌}
 use native.Mathlib.Omega.{arith}
 use lib.ListN.{length, replicate, length-replicate}
 use lib.Seq.{length-take-le, take_all}
-use borrow.Author.Rules.{rules}
 use Rattle.lists.proofs.Splice.{splice_whole, splice_over}
 use Rattle.lists.proofs.Stores.{take_zeros}
 use Rattle.stores.proofs.memory.clear_within.Goals as goal
 
 pub returns-then-budget-all : goal.returns-then-budget-all
-returns-then-budget-all c = 
+returns-then-budget-all c =
     let a = c.args in
     let xs = a.part.now in
     let short : a.budget ≤ length xs = omega arith in
@@ -22,7 +21,7 @@ returns-then-budget-all c =
     }
 
 pub returns : goal.returns
-returns c = 
+returns c =
     let a = c.args in
     let xs = a.part.now in
     let zeros = replicate {A = ℕ} (length xs) 0 in

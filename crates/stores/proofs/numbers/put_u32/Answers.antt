@@ -3,7 +3,6 @@ use mathlib.Core.Path.{ap, ◌∙◌}
 use Prim.Native.Nat.{◌-◌}
 use native.Mathlib.Omega.{arith}
 use lib.ListN.{length, take, drop}
-use borrow.Author.Rules.{rules}
 use Rattle.endian.specs.Number.{digits}
 use Rattle.lists.specs.Splice.{splice}
 use Rattle.endian.proofs.Number.{length_digits}
@@ -11,7 +10,7 @@ use Rattle.lists.proofs.Splice.{splice_part}
 use Rattle.stores.proofs.numbers.put_u32.Goals as goal
 
 pub returns : goal.returns
-returns c = 
+returns c =
     let z = c in
     let a = z.args in
     let n = length a.s.now - a.at in

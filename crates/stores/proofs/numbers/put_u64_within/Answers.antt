@@ -2,14 +2,13 @@
 use Prim.Native.Nat.{◌-◌}
 use native.Mathlib.Omega.{arith}
 use lib.ListN.{length}
-use borrow.Author.Rules.{rules}
 use Rattle.endian.specs.Number.{digits}
 use Rattle.endian.proofs.Number.{length_digits}
 use Rattle.lists.proofs.Stores.{spends_part}
 use Rattle.stores.proofs.numbers.put_u64_within.Goals as goal
 
 pub returns : goal.returns
-returns c = 
+returns c =
     let z = c in
     let a = z.args in
     let n = length a.s.now - a.at in
