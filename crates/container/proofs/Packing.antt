@@ -40,7 +40,7 @@ use Rattle.format.proofs.Unclosed.{refused_1}
 use Rattle.packs.specs.Pack
 use Rattle.packs.proofs.Packed.{packed_passes, positive, total_small, total_fits, stream_long, count_one, most_one, packed_long}
 use Rattle.packs.proofs.Packed.{tests_pass, image_is, nothing_yet, first_zero, found_whole}
-use Rattle.packs.proofs.Standing.{plain, last, image_long, plain_part, plain_field, plain_front, plain_last, own_there, meta2_there, stream_there}
+use Rattle.packs.proofs.Standing.{plain, image_long, plain_part, plain_field, plain_front, plain_last, own_there, meta2_there, stream_there}
 use Rattle.packs.proofs.Agreeing.{total_agrees, read_agrees, output_agrees, bytes_agree}
 use Rattle.container.specs.Format.{bytes_said, stream_said, total_said}
 use Rattle.container.specs.Packing.{packed_contents, VersionsHeld, LoadsPacked, Packs, PackCuts}

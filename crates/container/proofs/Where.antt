@@ -20,10 +20,8 @@ use Rattle.endian.proofs.Signed.{within_natural, within_holds, within_one, withi
 use Rattle.format.specs.declared.head.File.{File}
 use Rattle.format.specs.Limits.{max_tasks, max_blocks, max_size, max_rank, format_rule, blocksize_rule, tasks_rule, is_new, rank_rule, maxchunks_rule}
 use Rattle.format.specs.Layout.{capacity, meta1_end, meta2_length}
-use Rattle.format.specs.Meta1
 use Rattle.format.specs.Meta2
 use Rattle.format.specs.Record.{files_of, file_of, is_big, holds, meta2_at, end_at}
-use Rattle.format.specs.Kinds
 use Rattle.format.specs.Refusals.{no_fault}
 use Rattle.format.specs.Judge.{is, magic_in, big_in, ordered_in, tasks_in, maxchunks_in, head_in, size_in, meta2_in, start_tests, field_tests, fixed_tests, rank_tests, requested_tests, last_tests, rest_tests, meta1_tests, count_in, count_tests, greatest_test, value_test, value_tests, counts_tests, meta2_tests}
 use Rattle.format.specs.declared.loaded.LoadAnswer.{LoadAnswer}

@@ -1,10 +1,10 @@
 -- All that is promised, over every image, table, record, opening and list of requests: one field for each promise. What is said of an image, of a
 -- session and of an opening is said of whichever file a call means (W-204): the entries of this crate mean a single file.
-use Rattle.std.specs.Prelude.{◌≡◌, List, ℕ, ◌-◌, ℤ}
+use Rattle.std.specs.Prelude.{◌≡◌, List, ℕ, ℤ}
 use Rattle.format.specs.declared.head.File.{File}
 use Rattle.format.specs.Session.{State}
 use Rattle.format.specs.Open.{Opening}
-use Rattle.format.specs.Write.{Request, refusals}
+use Rattle.format.specs.Write.{Request}
 use Rattle.format.specs.Close.{maxchunks_used, close_answer}
 use Rattle.format.specs.Container.{IsContainer, WasContainer}
 use Rattle.format.specs.Load.{load_answer}

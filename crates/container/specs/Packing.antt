@@ -1,6 +1,6 @@
 -- W-210, "Packing before the copy": what packing a loaded container leaves in the second image, that it loads again with the same streams, that packing
 -- it once more gives the same bytes, and what is found of it where power goes. Tasks are counted from 0: i for task i + 1.
-use Rattle.std.specs.Prelude.{◌≡◌, List, [], ℕ, ◌+◌, ◌-◌, ◌*◌, ◌^◌, ◌≤◌, ◌<◌, ℤ, length, take, drop}
+use Rattle.std.specs.Prelude.{◌≡◌, List, ℕ, ◌+◌, ◌-◌, ◌*◌, ◌^◌, ◌≤◌, ◌<◌, ℤ, length, take, drop}
 use Rattle.std.specs.Int.Signed.{mag}
 use Rattle.lists.specs.Splice.{splice}
 use Rattle.format.specs.declared.head.File.TheVariants.{Single}

@@ -10,13 +10,13 @@ use lib.Seq.{length-take-le, take_all}
 use borrow.Author.Tests.{ltb-false, not-false, not-true}
 use Rattle.lists.specs.Below.{join_below}
 use Rattle.lists.specs.Splice.{splice}
-use Rattle.lists.specs.Stores.{Store, store, applied, byte_stores, first_stores, found}
+use Rattle.lists.specs.Stores.{Store, applied, byte_stores, first_stores, found}
 use Rattle.lists.proofs.Below.{all_at, greatest_le, length_joined}
 use Rattle.lists.proofs.Splice.{length_splice}
 use Rattle.lists.proofs.Stores.{found_none, found_all, applied_around}
 use Rattle.format.specs.Limits.{max_size}
 use Rattle.format.specs.Layout.{meta1_end, capacity, globalskip, extended_before, meta2_start, meta2_end}
-use Rattle.format.specs.Meta1.{magic, fixed_length, meta1_front, meta1}
+use Rattle.format.specs.Meta1.{fixed_length, meta1_front, meta1}
 use Rattle.format.specs.Meta2.{least_count}
 use Rattle.format.specs.Refusals.{first_failing}
 use Rattle.format.specs.Record.{rank_of, is_big, record_tests}

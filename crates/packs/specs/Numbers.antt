@@ -2,7 +2,6 @@
 -- proofs/Numbers.antt.
 use Rattle.std.specs.Prelude.{Bool, true, false, List, [], ◌∷◌, ◌++◌, map, ℕ, ◌+◌, ◌*◌, ℤ, pos, negsuc, get_or, take, replicate}
 use Rattle.lists.specs.Below.{list_below}
-use Rattle.lists.specs.Splice.{splice}
 use Rattle.endian.specs.Signed.{signed_at}
 use Rattle.format.specs.declared.head.File.TheVariants.{Single}
 use Rattle.format.specs.Meta1.{size_field, maxchunks_field, start_field}
@@ -10,8 +9,7 @@ use Rattle.format.specs.Record.{order_of}
 use Rattle.format.specs.Session.{State}
 use Rattle.format.specs.Write.{Request, writes}
 use Rattle.format.specs.Close.{close_image}
-use Rattle.format.specs.Load.{load_answer}
-use Rattle.format.specs.Reads.{Container, loaded_from, read_output}
+use Rattle.format.specs.Reads.{Container, loaded_from}
 use Rattle.format.specs.Numbers.{Row, row, plan_in, opened_zeros, write, two}
 use Rattle.packs.specs.Pack
 

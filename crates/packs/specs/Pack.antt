@@ -1,6 +1,6 @@
 -- Document 02, W-210, "Packing before the copy": a loaded container written anew into a second image, with all bytes of each task in its chunk 1.
 -- Tasks are counted from 0 here: i for task i + 1.
-use Rattle.std.specs.Prelude.{Bool, cond, not, List, [], ◌∷◌, ◌++◌, ℕ, ◌+◌, ◌-◌, ◌≤◌, max, ltb, eqb, ℤ, pos, length, take, drop, replicate}
+use Rattle.std.specs.Prelude.{cond, not, List, [], ◌∷◌, ◌++◌, ℕ, ◌+◌, ◌-◌, max, ltb, eqb, ℤ, pos, length, take, drop, replicate}
 use Rattle.lists.specs.Below.{all_below, greatest_below, join_below}
 use Rattle.lists.specs.Splice.{splice}
 use Rattle.lists.specs.Stores.{Store, store, applied, found}
