@@ -1,9 +1,8 @@
 -- Zeros beside a refusal, and else where the chunk's bytes lie.
-use mathlib.Core.Path.{◌≡◌, sym, ap, ◌∙◌}
+use mathlib.Core.Path.{sym, ap, ◌∙◌}
 use Prim.Native.Nat.{ℕ}
 use native.Mathlib.Omega.{arith}
 use borrow.Author.Rules.{rules}
-use Rattle.format.specs.Record.{file_in}
 use Rattle.format.specs.declared.head.File.TheVariants.{Single}
 use Rattle.format.proofs.Refusals.{when_accepted, when_refused}
 use Rattle.format.specs.Reads.{container_of, chunk_refusal, part_answer}
@@ -20,22 +19,22 @@ returns-then-refusal-ne0-clause-value c =
 
 pub part_of-requires-clause-readable : goal.part_of-requires-clause-readable
 part_of-requires-clause-readable c =
-    let passes : let a = c.args in chunk_refusal (container_of Single a.l a.lists.now a.image.now a.table.now) a.task a.chunk ≡ 0 = sym c.chunk_refusal-refusal.ensures ∙ c.if-refusal-ne0.false in
-    let own : file_in c.args.l.head ≡ Single = chunk_file _ _ _ passes in
+    let passes = sym c.chunk_refusal-refusal.ensures ∙ c.if-refusal-ne0.false in
+    let own = chunk_file _ _ _ passes in
     let r = chunk_readable _ _ (search rules) _ passes in
     rw own r.0
 
 pub part_of-requires-clause-le_chunk : goal.part_of-requires-clause-le_chunk
 part_of-requires-clause-le_chunk c =
-    let passes : let a = c.args in chunk_refusal (container_of Single a.l a.lists.now a.image.now a.table.now) a.task a.chunk ≡ 0 = sym c.chunk_refusal-refusal.ensures ∙ c.if-refusal-ne0.false in
-    let own : file_in c.args.l.head ≡ Single = chunk_file _ _ _ passes in
+    let passes = sym c.chunk_refusal-refusal.ensures ∙ c.if-refusal-ne0.false in
+    let own = chunk_file _ _ _ passes in
     let r = chunk_readable _ _ (search rules) _ passes in
     rw own r.1
 
 pub returns-clause-value : goal.returns-clause-value
 unfolding part_answer
 returns-clause-value c =
-    let passes : let a = c.args in chunk_refusal (container_of Single a.l a.lists.now a.image.now a.table.now) a.task a.chunk ≡ 0 = sym c.chunk_refusal-refusal.ensures ∙ c.if-refusal-ne0.false in
-    let own : file_in c.args.l.head ≡ Single = chunk_file _ _ _ passes in
+    let passes = sym c.chunk_refusal-refusal.ensures ∙ c.if-refusal-ne0.false in
+    let own = chunk_file _ _ _ passes in
     let p = rw own at c.part_of.ensures in
     p.value ∙ sym (when_accepted _ _ _ passes)

@@ -20,7 +20,8 @@ nothing_left out part done n skip h =
 
 all_left : (part : List ℕ) (n skip : ℕ) → length part - skip ≤ n → take (length part - skip) (drop skip part) ≡ take n (drop skip part)
 all_left part n skip h =
-    take_all (length part - skip) (drop skip part) (simp length-drop (omega arith)) ∙ sym (take_all n (drop skip part) (simp length-drop (omega arith)))
+    take_all (length part - skip) (drop skip part) (simp length-drop (omega arith))
+    ∙ sym (take_all n (drop skip part) (simp length-drop (omega arith)))
 
 pub returns-then-part-skip-clause-out_after : goal.returns-then-part-skip-clause-out_after
 returns-then-part-skip-clause-out_after c =

@@ -7,11 +7,9 @@ use lib.ListN.{length, take, drop}
 use borrow.Author.Rules.{rules}
 use borrow.Author.Tests.{lt-ltb, le-ltb}
 use Rattle.lists.specs.Splice.{splice}
-use Rattle.format.specs.Record.{file_in}
-use Rattle.format.specs.declared.head.File.TheVariants.{Single}
 use Rattle.format.specs.Refusals.{first_failing}
 use Rattle.format.proofs.Refusals.{first_passes, first_fails, when_accepted, when_refused}
-use Rattle.format.specs.Reads.{Container, container_of, read_tests, stream_of, total_of, read_refusal, read_answer, read_output}
+use Rattle.format.specs.Reads.{Container, read_tests, stream_of, total_of, read_refusal, read_answer, read_output}
 use Rattle.format.proofs.Readable.{read_numbered, readable, read_file}
 use Rattle.format.proofs.Stream.{counted}
 use Rattle.reads.proofs.read.Goals as goal
@@ -55,56 +53,36 @@ accepted : (c : Container) (task p : ℕ) (out filled : List ℕ) (b : ℕ)
 unfolding read_answer read_output
 accepted c task p out filled b e f g = (ap (counted 0) g ∙ sym (when_accepted _ _ _ e), f ∙ sym (when_accepted _ _ _ e))
 
-pub returns-then-refusal-ne0-clause-value : goal.returns-then-refusal-ne0-clause-value
-returns-then-refusal-ne0-clause-value c =
-    let a = c.args in
-    (refused (container_of Single a.l a.lists.now a.image.now a.table.now) a.task a.p a.out.now _ (tests_fail _ _ _ _ c.read_refusal-refusal.ensures (search rules)) (search rules)).0
-
-pub returns-then-refusal-ne0-clause-out_after : goal.returns-then-refusal-ne0-clause-out_after
-returns-then-refusal-ne0-clause-out_after c =
-    let a = c.args in
-    (refused (container_of Single a.l a.lists.now a.image.now a.table.now) a.task a.p a.out.now _ (tests_fail _ _ _ _ c.read_refusal-refusal.ensures (search rules)) (search rules)).1
+pub returns-then-refusal-ne0 : goal.returns-then-refusal-ne0
+returns-then-refusal-ne0 c =
+    let some : 0 < c.read_refusal-refusal.result = search rules in
+    let r = refused _ _ _ c.args.out.now _ (tests_fail _ _ c.args.p _ c.read_refusal-refusal.ensures some) some in
+    record { value = r.0; out_after = r.1 }
 
 pub total_of-requires : goal.total_of-requires
 total_of-requires c =
-    let passes : let a = c.args in first_failing (read_tests (container_of Single a.l a.lists.now a.image.now a.table.now) a.task) ≡ 0 = sym c.read_refusal-refusal.ensures ∙ c.if-refusal-ne0.false in
-    let own : file_in c.args.l.head ≡ Single = read_file _ _ passes in
-    rw own (readable _ _ (search rules) passes)
+    let passes = sym c.read_refusal-refusal.ensures ∙ c.if-refusal-ne0.false in
+    rw (read_file _ _ passes) (readable _ _ (search rules) passes)
 
-pub returns-then-total_of-p-clause-value : goal.returns-then-total_of-p-clause-value
-returns-then-total_of-p-clause-value c =
-    let a = c.args in
-    let passes : first_failing (read_tests (container_of Single a.l a.lists.now a.image.now a.table.now) a.task) ≡ 0 = sym c.read_refusal-refusal.ensures ∙ c.if-refusal-ne0.false in
-    let own : file_in c.args.l.head ≡ Single = read_file _ _ passes in
-    (refused (container_of Single a.l a.lists.now a.image.now a.table.now) a.task a.p a.out.now _ (past_total _ _ _ _ passes (rw own at c.total_of.ensures) c.if-total_of-p.true) (omega arith)).0
-
-pub returns-then-total_of-p-clause-out_after : goal.returns-then-total_of-p-clause-out_after
-returns-then-total_of-p-clause-out_after c =
-    let a = c.args in
-    let passes : first_failing (read_tests (container_of Single a.l a.lists.now a.image.now a.table.now) a.task) ≡ 0 = sym c.read_refusal-refusal.ensures ∙ c.if-refusal-ne0.false in
-    let own : file_in c.args.l.head ≡ Single = read_file _ _ passes in
-    (refused (container_of Single a.l a.lists.now a.image.now a.table.now) a.task a.p a.out.now _ (past_total _ _ _ _ passes (rw own at c.total_of.ensures) c.if-total_of-p.true) (omega arith)).1
+pub returns-then-total_of-p : goal.returns-then-total_of-p
+returns-then-total_of-p c =
+    let passes = sym c.read_refusal-refusal.ensures ∙ c.if-refusal-ne0.false in
+    let own = read_file _ _ passes in
+    let total = rw own at c.total_of.ensures in
+    let r = refused _ _ _ c.args.out.now _ (past_total _ _ _ _ passes total c.if-total_of-p.true) (omega arith) in
+    record { value = r.0; out_after = r.1 }
 
 pub copy_stream-bytes-requires : goal.copy_stream-bytes-requires
 copy_stream-bytes-requires c =
-    let passes : let a = c.args in first_failing (read_tests (container_of Single a.l a.lists.now a.image.now a.table.now) a.task) ≡ 0 = sym c.read_refusal-refusal.ensures ∙ c.if-refusal-ne0.false in
-    let own : file_in c.args.l.head ≡ Single = read_file _ _ passes in
-    rw own (readable _ _ (search rules) passes)
+    let passes = sym c.read_refusal-refusal.ensures ∙ c.if-refusal-ne0.false in
+    rw (read_file _ _ passes) (readable _ _ (search rules) passes)
 
-pub returns-clause-value : goal.returns-clause-value
-returns-clause-value c =
-    let a = c.args in
-    let passes : first_failing (read_tests (container_of Single a.l a.lists.now a.image.now a.table.now) a.task) ≡ 0 = sym c.read_refusal-refusal.ensures ∙ c.if-refusal-ne0.false in
-    let own : file_in c.args.l.head ≡ Single = read_file _ _ passes in
-    let done = c.copy_stream-bytes.ensures in
-    (accepted (container_of Single a.l a.lists.now a.image.now a.table.now) a.task a.p a.out.now _ _ (in_total _ _ _ _ passes (rw own at c.total_of.ensures) c.if-total_of-p.false)
-    (rw own at done.out_after) (rw own at done.value)).0
-
-pub returns-clause-out_after : goal.returns-clause-out_after
-returns-clause-out_after c =
-    let a = c.args in
-    let passes : first_failing (read_tests (container_of Single a.l a.lists.now a.image.now a.table.now) a.task) ≡ 0 = sym c.read_refusal-refusal.ensures ∙ c.if-refusal-ne0.false in
-    let own : file_in c.args.l.head ≡ Single = read_file _ _ passes in
-    let done = c.copy_stream-bytes.ensures in
-    (accepted (container_of Single a.l a.lists.now a.image.now a.table.now) a.task a.p a.out.now _ _ (in_total _ _ _ _ passes (rw own at c.total_of.ensures) c.if-total_of-p.false)
-    (rw own at done.out_after) (rw own at done.value)).1
+pub returns : goal.returns
+returns c =
+    let passes = sym c.read_refusal-refusal.ensures ∙ c.if-refusal-ne0.false in
+    let own = read_file _ _ passes in
+    let total = rw own at c.total_of.ensures in
+    let inside = in_total _ _ _ _ passes total c.if-total_of-p.false in
+    let copied = c.copy_stream-bytes.ensures in
+    let r = accepted _ _ _ _ _ _ inside (rw own at copied.out_after) (rw own at copied.value) in
+    record { value = r.0; out_after = r.1 }

@@ -3,11 +3,9 @@ use mathlib.Core.Path.{◌≡◌, sym, ap, ◌∙◌}
 use Prim.Native.Nat.{ℕ, ◌<◌}
 use native.Mathlib.Omega.{arith}
 use borrow.Author.Rules.{rules}
-use Rattle.format.specs.Record.{file_in}
-use Rattle.format.specs.declared.head.File.TheVariants.{Single}
 use Rattle.format.specs.Refusals.{first_failing}
 use Rattle.format.proofs.Refusals.{when_accepted, when_refused}
-use Rattle.format.specs.Reads.{Container, container_of, read_tests, total_of, total_answer}
+use Rattle.format.specs.Reads.{Container, read_tests, total_of, total_answer}
 use Rattle.format.proofs.Readable.{readable, read_file}
 use Rattle.format.proofs.Stream.{counted}
 use Rattle.reads.proofs.total.Goals as goal
@@ -27,12 +25,12 @@ returns-then-refusal-ne0 c = refused _ _ _ c.read_refusal-refusal.ensures (searc
 
 pub total_of-bytes-requires : goal.total_of-bytes-requires
 total_of-bytes-requires c =
-    let passes : let a = c.args in first_failing (read_tests (container_of Single a.l a.lists.now a.image.now a.table.now) a.task) ≡ 0 = sym c.read_refusal-refusal.ensures ∙ c.if-refusal-ne0.false in
-    let own : file_in c.args.l.head ≡ Single = read_file _ _ passes in
+    let passes = sym c.read_refusal-refusal.ensures ∙ c.if-refusal-ne0.false in
+    let own = read_file _ _ passes in
     rw own (readable _ _ (search rules) passes)
 
 pub returns : goal.returns
 returns c =
-    let passes : let a = c.args in first_failing (read_tests (container_of Single a.l a.lists.now a.image.now a.table.now) a.task) ≡ 0 = sym c.read_refusal-refusal.ensures ∙ c.if-refusal-ne0.false in
-    let own : file_in c.args.l.head ≡ Single = read_file _ _ passes in
+    let passes = sym c.read_refusal-refusal.ensures ∙ c.if-refusal-ne0.false in
+    let own = read_file _ _ passes in
     accepted _ _ _ passes (rw own at c.total_of-bytes.ensures)
