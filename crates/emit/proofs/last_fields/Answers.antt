@@ -18,32 +18,23 @@ slice_bounds-copy_within-start c = omega (arith, c.last_at-at.ensures, c.require
 
 pub slice_bounds-copy_within-count : goal.slice_bounds-copy_within-count
 unfolding meta1_end
-slice_bounds-copy_within-count c =
-    let l = c in
-    omega (arith, l.last_at-at.ensures, l.requires)
+slice_bounds-copy_within-count c = omega (arith, c.last_at-at.ensures, c.requires)
 
 pub copy_within-requires : goal.copy_within-requires
 unfolding meta1_end
-copy_within-requires c =
-    let l = c in
-    simp (length-take, length-drop) (omega (arith, l.last_at-at.ensures, l.requires, c.put_u64.auto.s))
+copy_within-requires c = simp (length-take, length-drop) (omega (arith, c.last_at-at.ensures, c.requires, c.put_u64.auto.s))
 
 pub returns : goal.returns
 unfolding last_fields meta1_end
 returns c =
-    let copy = c in
-    let second = copy in
-    let first = second in
-    let l = first in
-    let z = l in
-    let a = z.args in
+    let a = c.args in
     let xs = a.image.now in
     let zeros = replicate {A = ℕ} 12 0 in
-    let maxchunks = put_first zeros 0 (digits a.big 4 a.maxchunks) 4 (length_digits a.big 4 _) first.put_u32.ensures in
-    let both = (put_then zeros 0 _ (digits a.big 8 a.start) 8 maxchunks (length_digits a.big 8 _) second.put_u64.ensures (omega arith)).0 in
+    let maxchunks = put_first zeros 0 (digits a.big 4 a.maxchunks) 4 (length_digits a.big 4 _) c.put_u32.ensures in
+    let both = (put_then zeros 0 _ (digits a.big 8 a.start) 8 maxchunks (length_digits a.big 8 _) c.put_u64.ensures (omega arith)).0 in
     let long = length_last a.big a.maxchunks a.start in
     let made = both ∙ splice_over zeros (last_fields a.big a.maxchunks a.start) long in
-    let at = l.last_at-at.result in
-    spends_same l.last_at-at.ensures refl
-    (spends_part a.budget xs at (length xs - at) (last_fields a.big a.maxchunks a.start) (omega (arith, long, z.requires, l.last_at-at.ensures))
-    (omega (arith, z.requires, l.last_at-at.ensures)) (rw made at copy.copy_within.ensures))
+    let at = c.last_at-at.result in
+    spends_same c.last_at-at.ensures refl
+    (spends_part a.budget xs at (length xs - at) (last_fields a.big a.maxchunks a.start) (omega (arith, long, c.requires, c.last_at-at.ensures))
+    (omega (arith, c.requires, c.last_at-at.ensures)) (rw made at c.copy_within.ensures))

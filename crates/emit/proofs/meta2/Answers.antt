@@ -23,13 +23,10 @@ put_cells-requires c =
 pub returns : goal.returns
 unfolding meta2
 returns c =
-    let second = c in
-    let first = second in
-    let z = first in
-    let a = z.args in
+    let a = c.args in
     let xs = a.image.now in
     let cells = a.n * a.maxchunks in
     let count : ℕ → List ℕ = λ i. digits a.big 8 (entry a.counts.now i) in
-    let counts = runs a.budget xs a.at 8 count (λ i. length_digits a.big 8 _) a.n first.put_list-left.ensures in
-    (run_then a.budget xs a.at _ _ (8 * cells) counts (length_numbers a.big 8 cells (cell a.table.now)) second.put_cells.ensures
-    (omega (arith, z.requires, meta2_parts a.n a.maxchunks))).spends
+    let counts = runs a.budget xs a.at 8 count (λ i. length_digits a.big 8 _) a.n c.put_list-left.ensures in
+    (run_then a.budget xs a.at _ _ (8 * cells) counts (length_numbers a.big 8 cells (cell a.table.now)) c.put_cells.ensures
+    (omega (arith, c.requires, meta2_parts a.n a.maxchunks))).spends

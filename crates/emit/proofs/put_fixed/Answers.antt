@@ -14,16 +14,12 @@ use Rattle.emit.proofs.put_fixed.Goals as goal
 
 pub returns : goal.returns
 returns c =
-    let second = c in
-    let first = second in
-    let made = first in
-    let z = made in
-    let a = z.args in
+    let a = c.args in
     let xs = a.image.now in
     let vs = drop 1 (first_fields a.big a.h) in
     let long : length vs ≡ 51 = rw length-drop (omega (arith, length_first a.big a.h)) in
     let copied =
-    spends_part a.budget xs 1 (length xs - 1) vs (omega (arith, z.requires)) (omega (arith, z.requires))
-    (spends_same refl (ap (λ (l : List ℕ). take 51 (drop 1 l)) made.first_fields-fields.ensures ∙ take_all 51 vs (omega arith)) first.copy_within-left.ensures) in
+    spends_part a.budget xs 1 (length xs - 1) vs (omega (arith, c.requires)) (omega (arith, c.requires))
+    (spends_same refl (ap (λ (l : List ℕ). take 51 (drop 1 l)) c.first_fields-fields.ensures ∙ take_all 51 vs (omega arith)) c.copy_within-left.ensures) in
     let fields = run_first a.budget xs 1 vs 51 long copied in
-    (run_then a.budget xs 1 _ _ prefix_length fields (length_padded a.prefix.now z.requires.0) second.put_prefix.ensures (omega (arith, z.requires))).spends
+    (run_then a.budget xs 1 _ _ prefix_length fields (length_padded a.prefix.now c.requires.0) c.put_prefix.ensures (omega (arith, c.requires))).spends

@@ -9,15 +9,12 @@ use Rattle.emit.proofs.put_prefix.Goals as goal
 
 pub returns : goal.returns
 returns c =
-    let padded = c in
-    let copy = padded in
-    let z = copy in
-    let a = z.args in
+    let a = c.args in
     let xs = a.image.now in
     let n = length a.prefix.now in
     let rest : 1076 - (52 + n) ≡ prefix_length - n = omega arith in
     let prefix =
     run_first a.budget xs 52 a.prefix.now n refl
-    (spends_part a.budget xs 52 (length xs - 52) a.prefix.now (omega (arith, z.requires)) (omega (arith, z.requires)) copy.copy_within-left.ensures) in
+    (spends_part a.budget xs 52 (length xs - 52) a.prefix.now (omega (arith, c.requires)) (omega (arith, c.requires)) c.copy_within-left.ensures) in
     (run_then a.budget xs 52 _ (replicate (prefix_length - n) 0) (prefix_length - n) prefix (length-replicate _ 0)
-    (rw rest at padded.put_zeros.ensures) (omega (arith, z.requires))).spends
+    (rw rest at c.put_zeros.ensures) (omega (arith, c.requires))).spends

@@ -12,58 +12,42 @@ use Rattle.emit.proofs.put_rest.Goals as goal
 
 pub put_fixed-left-requires : goal.put_fixed-left-requires
 put_fixed-left-requires c =
-    let z = c in
-    let h = z.args.h in
-    (search rules, omega (arith, z.requires, opening_fits h.blocksize h.n z.requires.blocksize_value.0))
+    let h = c.args.h in
+    (search rules, omega (arith, c.requires, opening_fits h.blocksize h.n c.requires.blocksize_value.0))
 
 pub slice_bounds-put_list-end : goal.slice_bounds-put_list-end
-slice_bounds-put_list-end c =
-    let z = c in
-    sym (length_ranks z.args.lists.now z.requires.blocksize_value.2)
+slice_bounds-put_list-end c = sym (length_ranks c.args.lists.now c.requires.blocksize_value.2)
 
 pub put_list-left-requires : goal.put_list-left-requires
 put_list-left-requires c =
-    let z = c in
-    let h = z.args.h in (
-      omega (arith, z.requires, length_ranks z.args.lists.now z.requires.blocksize_value.2),
-      omega (arith, z.requires, opening_fits h.blocksize h.n z.requires.blocksize_value.0),
+    let h = c.args.h in (
+      omega (arith, c.requires, length_ranks c.args.lists.now c.requires.blocksize_value.2),
+      omega (arith, c.requires, opening_fits h.blocksize h.n c.requires.blocksize_value.0),
     )
 
 pub put_list-left-requires-2 : goal.put_list-left-requires-2
 put_list-left-requires-2 c =
-    let z = c in
-    let h = z.args.h in (
-      omega (arith, z.requires, length_sizes z.args.lists.now z.requires.blocksize_value.2),
-      omega (arith, z.requires, opening_fits h.blocksize h.n z.requires.blocksize_value.0, c.sizes_at.ensures),
+    let h = c.args.h in (
+      omega (arith, c.requires, length_sizes c.args.lists.now c.requires.blocksize_value.2),
+      omega (arith, c.requires, opening_fits h.blocksize h.n c.requires.blocksize_value.0, c.sizes_at.ensures),
     )
 
 pub put_zeros-requires : goal.put_zeros-requires
 put_zeros-requires c =
-    let d = c in
-    let z = c in
-    let h = z.args.h in
-    let fits = opening_fits h.blocksize h.n z.requires.blocksize_value.0 in
-    let last = d.last_at-last.ensures in
-    let third = c in
-    let second = third in
-    let first = second in (
-      omega (arith, z.requires, d.data_start-end.ensures),
-      omega (arith, z.requires, d.data_start-end.ensures, c.put_list-left-2.auto.image, second.put_list-left.auto.image, c.put_fixed-left.auto.image),
+    let fits = opening_fits c.args.h.blocksize c.args.h.n c.requires.blocksize_value.0 in
+    let last = c.last_at-last.ensures in (
+      omega (arith, c.requires, c.data_start-end.ensures),
+      omega (arith, c.requires, c.data_start-end.ensures, c.put_list-left-2.auto.image, c.put_list-left.auto.image, c.put_fixed-left.auto.image),
     )
 
 pub returns : goal.returns
 returns c =
-    let fourth = c in
-    let third = fourth in
-    let second = c in
-    let first = c in
-    let d = c in
     let a = c.args in
-    let last = d.last_at-last.ensures in
+    let last = c.last_at-last.ensures in
     rest_stored a.h (rank_of a.lists.now) (size_of a.lists.now) a.prefix.now a.budget a.image.now c.requires.prefix_len_bound c.requires.blocksize_value.0
     c.requires.n_in_bounds
-    d.data_start-end.ensures
-    first.put_fixed-left.ensures
-    second.put_list-left.ensures
-    (spends_same third.sizes_at.ensures refl third.put_list-left-2.ensures)
-    (spends_same last (ap (λ (at : ℕ). replicate (d.data_start-end.result - at) 0) last) fourth.put_zeros.ensures)
+    c.data_start-end.ensures
+    c.put_fixed-left.ensures
+    c.put_list-left.ensures
+    (spends_same c.sizes_at.ensures refl c.put_list-left-2.ensures)
+    (spends_same last (ap (λ (at : ℕ). replicate (c.data_start-end.result - at) 0) last) c.put_zeros.ensures)

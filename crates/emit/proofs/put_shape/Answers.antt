@@ -12,27 +12,21 @@ use Rattle.emit.proofs.put_shape.Goals as goal
 pub returns : goal.returns
 unfolding shape
 returns c =
-    let fifth = c in
-    let fourth = fifth in
-    let third = fourth in
-    let second = third in
-    let first = second in
-    let z = first in
-    let a = z.args in
+    let a = c.args in
     let xs = a.fields.now in
-    let ys = fourth.put_u32-4.new.s in
+    let ys = c.put_u32-4.new.s in
     let wide = length_digits a.big 4 in
-    let blocksize = put_first xs 20 _ 4 (wide a.blocksize) first.put_u32.ensures in
-    let tasks = put_then xs 20 _ _ 4 blocksize (wide a.n) second.put_u32-2.ensures (omega (arith, z.requires)) in
-    let files = put_then xs 20 _ _ 4 tasks (wide a.files) third.put_u32-3.ensures (omega (arith, z.requires)) in
-    let number = put_then xs 20 _ _ 4 files (wide a.file) fourth.put_u32-4.ensures (omega (arith, z.requires)) in
+    let blocksize = put_first xs 20 _ 4 (wide a.blocksize) c.put_u32.ensures in
+    let tasks = put_then xs 20 _ _ 4 blocksize (wide a.n) c.put_u32-2.ensures (omega (arith, c.requires)) in
+    let files = put_then xs 20 _ _ 4 tasks (wide a.files) c.put_u32-3.ensures (omega (arith, c.requires)) in
+    let number = put_then xs 20 _ _ 4 files (wide a.file) c.put_u32-4.ensures (omega (arith, c.requires)) in
     let flags : length (take 16 (drop 36 ys)) ≡ 16 = length-take-le 16 (drop 36 ys) (simp length-drop (omega (
       arith,
-      z.requires,
+      c.requires,
       c.put_u32-4.auto.s,
       c.put_u32-3.auto.s,
       c.put_u32-2.auto.s,
       c.put_u32.auto.s,
     ))) in
-    let cleared = splice_whole ys 36 (replicate 16 0) 16 (fifth.clear.ensures ∙ ap (λ (k : ℕ). replicate k 0) flags) (length-replicate {A = ℕ} 16 0) in
-    (put_then xs 20 _ (replicate 16 0) 16 number (length-replicate {A = ℕ} 16 0) cleared (omega (arith, z.requires))).0
+    let cleared = splice_whole ys 36 (replicate 16 0) 16 (c.clear.ensures ∙ ap (λ (k : ℕ). replicate k 0) flags) (length-replicate {A = ℕ} 16 0) in
+    (put_then xs 20 _ (replicate 16 0) 16 number (length-replicate {A = ℕ} 16 0) cleared (omega (arith, c.requires))).0

@@ -14,21 +14,15 @@ use Rattle.emit.proofs.put_versions.Goals as goal
 pub returns : goal.returns
 unfolding versions
 returns c =
-    let fifth = c in
-    let fourth = fifth in
-    let third = fourth in
-    let second = third in
-    let first = second in
-    let z = first in
-    let a = z.args in
+    let a = c.args in
     let xs = a.fields.now in
     let wide = length_digits a.big 4 in
-    let marked = put_first xs 0 magic 4 refl first.copy_in.ensures in
-    let ordered = put_then xs 0 _ (digits a.big 4 order_number) 4 marked (wide _) second.put_u32.ensures (omega (arith, z.requires)) in
+    let marked = put_first xs 0 magic 4 refl c.copy_in.ensures in
+    let ordered = put_then xs 0 _ (digits a.big 4 order_number) 4 marked (wide _) c.put_u32.ensures (omega (arith, c.requires)) in
     let version =
     put_then xs 0 _ (signed_digits a.big 4 a.version) 4 ordered (wide _)
-    (third.put_i32.ensures ∙ store_signed _ 8 a.big w32 4 z.ranges.version) (omega (arith, z.requires)) in
+    (c.put_i32.ensures ∙ store_signed _ 8 a.big w32 4 c.ranges.version) (omega (arith, c.requires)) in
     let patch =
     put_then xs 0 _ (signed_digits a.big 4 a.patch) 4 version (wide _)
-    (fourth.put_i32-2.ensures ∙ store_signed _ 12 a.big w32 4 z.ranges.patch) (omega (arith, z.requires)) in
-    (put_then xs 0 _ (digits a.big 4 a.format) 4 patch (wide _) fifth.put_u32-2.ensures (omega (arith, z.requires))).0
+    (c.put_i32-2.ensures ∙ store_signed _ 12 a.big w32 4 c.ranges.patch) (omega (arith, c.requires)) in
+    (put_then xs 0 _ (digits a.big 4 a.format) 4 patch (wide _) c.put_u32-2.ensures (omega (arith, c.requires))).0

@@ -39,11 +39,9 @@ returns-then-not-format_ok c =
     let left : Left 0 = let p = c.requires in
     fields_unsigned _ c.args.file c.args.len _ _ _ _ _ _ p.order_is (λ i. (p.format_is i).value) (λ i. (p.blocksize_is i).value) (λ i. (p.tasks_are i).value)
     refl refl in
-    let t = c in
-    let s = t in
     c.number4.ensures
-    ∙ placed 4 _ s.args.format _ _ (λ i. (s.requires.format_is i).at)
-    ∙ sym (left ∙ fails_first _ _ (ap not (sym t.format_ok.ensures) ∙ t.if-not-format_ok.true-raw))
+    ∙ placed 4 _ c.args.format _ _ (λ i. (c.requires.format_is i).at)
+    ∙ sym (left ∙ fails_first _ _ (ap not (sym c.format_ok.ensures) ∙ c.if-not-format_ok.true-raw))
 
 pub returns-then-not-blocksize_ok : goal.returns-then-not-blocksize_ok
 returns-then-not-blocksize_ok c =
@@ -57,11 +55,9 @@ returns-then-not-blocksize_ok c =
     fields_unsigned _ c.args.file c.args.len _ _ _ _ _ _ p.order_is (λ i. (p.format_is i).value) (λ i. (p.blocksize_is i).value) (λ i. (p.tasks_are i).value)
     refl refl in
     let left_1 : Left 1 = left ∙ passes_first _ _ (ap not (sym c.format_ok.ensures) ∙ c.if-not-format_ok.false-raw) in
-    let t = c in
-    let s = c in
     c.number4-then-not-blocksize_ok.ensures
-    ∙ placed 5 _ s.args.blocksize _ _ (λ i. (s.requires.blocksize_is i).at)
-    ∙ sym (left_1 ∙ fails_first _ _ (ap not (sym t.blocksize_ok.ensures) ∙ t.if-not-blocksize_ok.true-raw))
+    ∙ placed 5 _ c.args.blocksize _ _ (λ i. (c.requires.blocksize_is i).at)
+    ∙ sym (left_1 ∙ fails_first _ _ (ap not (sym c.blocksize_ok.ensures) ∙ c.if-not-blocksize_ok.true-raw))
 
 pub returns-then-not-tasks_ok : goal.returns-then-not-tasks_ok
 returns-then-not-tasks_ok c =
@@ -76,11 +72,9 @@ returns-then-not-tasks_ok c =
     refl refl in
     let left_1 : Left 1 = left ∙ passes_first _ _ (ap not (sym c.format_ok.ensures) ∙ c.if-not-format_ok.false-raw) in
     let left_2 : Left 2 = left_1 ∙ passes_first _ _ (ap not (sym c.blocksize_ok.ensures) ∙ c.if-not-blocksize_ok.false-raw) in
-    let t = c in
-    let s = c in
     c.number4-then-not-tasks_ok.ensures
-    ∙ placed 6 _ s.args.n _ _ (λ i. (s.requires.tasks_are i).at)
-    ∙ sym (left_2 ∙ fails_first _ _ (ap not (sym t.tasks_ok.ensures) ∙ t.if-not-tasks_ok.true-raw))
+    ∙ placed 6 _ c.args.n _ _ (λ i. (c.requires.tasks_are i).at)
+    ∙ sym (left_2 ∙ fails_first _ _ (ap not (sym c.tasks_ok.ensures) ∙ c.if-not-tasks_ok.true-raw))
 
 pub returns-then-files-nfiles : goal.returns-then-files-nfiles
 returns-then-files-nfiles c =
@@ -98,12 +92,9 @@ returns-then-files-nfiles c =
     let left_2 : Left 2 = left_1 ∙ passes_first _ _ (ap not (sym c.blocksize_ok.ensures) ∙ c.if-not-blocksize_ok.false-raw) in
     let left_3 : Left 3 = left_2 ∙ passes_first _ _ (ap not (sym c.tasks_ok.ensures) ∙ c.if-not-tasks_ok.false-raw) in
     let files : let a = c.args in c.get_u32-files.result.value ≡ number_at a.big 4 a.xs.now files_at = λ i. (c.get_u32-files.ensures i).value in
-    let t = c in
-    let k = t in
-    let g = k in
     c.number4-then-files-nfiles.ensures
-    ∙ (λ i. at_place 7 7 (g.get_u32-files.ensures i) (g.get_u32-files.ensures i).at (needed i) (needed i))
-    ∙ sym (left_3 ∙ fails_first _ _ (ap not (ne_eqb _ _ (λ e. t.if-files-nfiles.true (files ∙ e ∙ sym needed)))))
+    ∙ (λ i. at_place 7 7 (c.get_u32-files.ensures i) (c.get_u32-files.ensures i).at (needed i) (needed i))
+    ∙ sym (left_3 ∙ fails_first _ _ (ap not (ne_eqb _ _ (λ e. c.if-files-nfiles.true (files ∙ e ∙ sym needed)))))
 
 pub returns-then-number-filenumber : goal.returns-then-number-filenumber
 returns-then-number-filenumber c =
@@ -122,16 +113,12 @@ returns-then-number-filenumber c =
     let left_3 : Left 3 = left_2 ∙ passes_first _ _ (ap not (sym c.tasks_ok.ensures) ∙ c.if-not-tasks_ok.false-raw) in
     let files : let a = c.args in c.get_u32-files.result.value ≡ number_at a.big 4 a.xs.now files_at = λ i. (c.get_u32-files.ensures i).value in
     let needed : c.files_of-nfiles.result ≡ files_of c.args.file = c.files_of-nfiles.ensures in
-    let left_4 : Left 4 = let g = c in
-    left_3 ∙ passes_first _ _ (ap not (eq-eqb _ _ (sym files ∙ c.if-files-nfiles.false ∙ needed))) in
+    let left_4 : Left 4 = left_3 ∙ passes_first _ _ (ap not (eq-eqb _ _ (sym files ∙ c.if-files-nfiles.false ∙ needed))) in
     let number : let a = c.args in
     c.get_u32-number.result.value ≡ number_at a.big 4 a.xs.now file_number_at = λ i. (c.get_u32-number.ensures i).value in
-    let t = c in
-    let k = t in
-    let g = k in
     c.number4-then-number-filenumber.ensures
-    ∙ (λ i. at_place 7 8 (g.get_u32-number.ensures i) (g.get_u32-number.ensures i).at (needed_2 i) (needed_2 i))
-    ∙ sym (left_4 ∙ fails_first _ _ (ap not (ne_eqb _ _ (λ e. t.if-number-filenumber.true (number ∙ e ∙ sym needed_2)))))
+    ∙ (λ i. at_place 7 8 (c.get_u32-number.ensures i) (c.get_u32-number.ensures i).at (needed_2 i) (needed_2 i))
+    ∙ sym (left_4 ∙ fails_first _ _ (ap not (ne_eqb _ _ (λ e. c.if-number-filenumber.true (number ∙ e ∙ sym needed_2)))))
 
 pub meta1_end-end-requires : goal.meta1_end-end-requires
 meta1_end-end-requires c =
@@ -140,11 +127,7 @@ meta1_end-end-requires c =
 
 pub not_as_needed-requires : goal.not_as_needed-requires
 unfolding meta1_end
-not_as_needed-requires c =
-    let few : c.args.n.value ≤ max_tasks = (tasks_facts _ (test_holds c.tasks_ok.ensures c.if-not-tasks_ok.false-raw)).1 in
-    let m = c in
-    let l = few in
-    (omega (arith, m.meta1_end-end.ensures), omega (arith, m.meta1_end-end.ensures))
+not_as_needed-requires c = (omega (arith, c.meta1_end-end.ensures), omega (arith, c.meta1_end-end.ensures))
 
 pub returns-then-len-end : goal.returns-then-len-end
 returns-then-len-end c =
@@ -162,19 +145,15 @@ returns-then-len-end c =
     let left_3 : Left 3 = left_2 ∙ passes_first _ _ (ap not (sym c.tasks_ok.ensures) ∙ c.if-not-tasks_ok.false-raw) in
     let files : let a = c.args in c.get_u32-files.result.value ≡ number_at a.big 4 a.xs.now files_at = λ i. (c.get_u32-files.ensures i).value in
     let needed : c.files_of-nfiles.result ≡ files_of c.args.file = c.files_of-nfiles.ensures in
-    let left_4 : Left 4 = let g = c in
-    left_3 ∙ passes_first _ _ (ap not (eq-eqb _ _ (sym files ∙ c.if-files-nfiles.false ∙ needed))) in
+    let left_4 : Left 4 = left_3 ∙ passes_first _ _ (ap not (eq-eqb _ _ (sym files ∙ c.if-files-nfiles.false ∙ needed))) in
     let number : let a = c.args in
     c.get_u32-number.result.value ≡ number_at a.big 4 a.xs.now file_number_at = λ i. (c.get_u32-number.ensures i).value in
     let needed_2 : c.number_of-filenumber.result ≡ file_of c.args.file = c.number_of-filenumber.ensures in
-    let left_5 : Left 5 = let g = c in
-    left_4 ∙ passes_first _ _ (ap not (eq-eqb _ _ (sym number ∙ c.if-number-filenumber.false ∙ needed_2))) in
-    let t = c in
-    let m = t in
+    let left_5 : Left 5 = left_4 ∙ passes_first _ _ (ap not (eq-eqb _ _ (sym number ∙ c.if-number-filenumber.false ∙ needed_2))) in
     let len = c.args.len in
     c.not_as_needed.ensures
-    ∙ (λ i. record { refusal = 3; fault = end_fault len (m.meta1_end-end.ensures i) })
-    ∙ sym (left_5 ∙ fails_first _ _ (rw (sym m.meta1_end-end.ensures) (lt-ltb _ _ t.if-len-end.true)))
+    ∙ (λ i. record { refusal = 3; fault = end_fault len (c.meta1_end-end.ensures i) })
+    ∙ sym (left_5 ∙ fails_first _ _ (rw (sym c.meta1_end-end.ensures) (lt-ltb _ _ c.if-len-end.true)))
 
 pub returns : goal.returns
 returns c =
@@ -192,13 +171,9 @@ returns c =
     let left_3 : Left 3 = left_2 ∙ passes_first _ _ (ap not (sym c.tasks_ok.ensures) ∙ c.if-not-tasks_ok.false-raw) in
     let files : let a = c.args in c.get_u32-files.result.value ≡ number_at a.big 4 a.xs.now files_at = λ i. (c.get_u32-files.ensures i).value in
     let needed : c.files_of-nfiles.result ≡ files_of c.args.file = c.files_of-nfiles.ensures in
-    let left_4 : Left 4 = let g = c in
-    left_3 ∙ passes_first _ _ (ap not (eq-eqb _ _ (sym files ∙ c.if-files-nfiles.false ∙ needed))) in
+    let left_4 : Left 4 = left_3 ∙ passes_first _ _ (ap not (eq-eqb _ _ (sym files ∙ c.if-files-nfiles.false ∙ needed))) in
     let number : let a = c.args in
     c.get_u32-number.result.value ≡ number_at a.big 4 a.xs.now file_number_at = λ i. (c.get_u32-number.ensures i).value in
     let needed_2 : c.number_of-filenumber.result ≡ file_of c.args.file = c.number_of-filenumber.ensures in
-    let left_5 : Left 5 = let g = c in
-    left_4 ∙ passes_first _ _ (ap not (eq-eqb _ _ (sym number ∙ c.if-number-filenumber.false ∙ needed_2))) in
-    let e = c in
-    let m = e in
-    c.passes.ensures ∙ sym (left_5 ∙ passes_last _ (rw (sym m.meta1_end-end.ensures) (le-ltb _ _ e.if-len-end.false)))
+    let left_5 : Left 5 = left_4 ∙ passes_first _ _ (ap not (eq-eqb _ _ (sym number ∙ c.if-number-filenumber.false ∙ needed_2))) in
+    c.passes.ensures ∙ sym (left_5 ∙ passes_last _ (rw (sym c.meta1_end-end.ensures) (le-ltb _ _ c.if-len-end.false)))

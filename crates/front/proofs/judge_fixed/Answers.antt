@@ -29,8 +29,7 @@ unfolding meta1_end
 get_u32-format-requires c =
     let started : let a = c.args in
     first_failing (start_tests a.xs.now a.len) ≡ 0 = start_passed _ _ c.judge_start-start.ensures c.if-start-ne0.false in
-    let long : fixed_length ≤ length c.args.xs.now = let s = c in
-    s.requires fixed_length (start_long _ _ started) (omega arith) in
+    let long : fixed_length ≤ length c.args.xs.now = c.requires fixed_length (start_long _ _ started) (omega arith) in
     omega (arith, long)
 
 pub get_u32-blocksize-requires : goal.get_u32-blocksize-requires
@@ -38,8 +37,7 @@ unfolding meta1_end
 get_u32-blocksize-requires c =
     let started : let a = c.args in
     first_failing (start_tests a.xs.now a.len) ≡ 0 = start_passed _ _ c.judge_start-start.ensures c.if-start-ne0.false in
-    let long : fixed_length ≤ length c.args.xs.now = let s = c in
-    s.requires fixed_length (start_long _ _ started) (omega arith) in
+    let long : fixed_length ≤ length c.args.xs.now = c.requires fixed_length (start_long _ _ started) (omega arith) in
     omega (arith, long)
 
 pub get_u32-n-requires : goal.get_u32-n-requires
@@ -47,8 +45,7 @@ unfolding meta1_end
 get_u32-n-requires c =
     let started : let a = c.args in
     first_failing (start_tests a.xs.now a.len) ≡ 0 = start_passed _ _ c.judge_start-start.ensures c.if-start-ne0.false in
-    let long : fixed_length ≤ length c.args.xs.now = let s = c in
-    s.requires fixed_length (start_long _ _ started) (omega arith) in
+    let long : fixed_length ≤ length c.args.xs.now = c.requires fixed_length (start_long _ _ started) (omega arith) in
     omega (arith, long)
 
 pub judge_fields-verdict-requires : goal.judge_fields-verdict-requires
@@ -56,13 +53,10 @@ unfolding meta1_end
 judge_fields-verdict-requires c =
     let started : let a = c.args in
     first_failing (start_tests a.xs.now a.len) ≡ 0 = start_passed _ _ c.judge_start-start.ensures c.if-start-ne0.false in
-    let long : fixed_length ≤ length c.args.xs.now = let s = c in
-    s.requires fixed_length (start_long _ _ started) (omega arith) in
-    let read : let s = c in
-    FieldsRead s.args.xs.now s.judge_start-start.result.big c.get_u32-format.result c.get_u32-blocksize.result
-    c.get_u32-n.result = let e = c in
-    record {
-      order_is = order_given _ _ e.judge_start-start.ensures e.if-start-ne0.false;
+    let long : fixed_length ≤ length c.args.xs.now = c.requires fixed_length (start_long _ _ started) (omega arith) in
+    let read : FieldsRead c.args.xs.now c.judge_start-start.result.big c.get_u32-format.result c.get_u32-blocksize.result
+    c.get_u32-n.result = record {
+      order_is = order_given _ _ c.judge_start-start.ensures c.if-start-ne0.false;
       long = long;
       format_is = c.get_u32-format.ensures;
       blocksize_is = c.get_u32-blocksize.ensures;
@@ -74,16 +68,14 @@ pub returns-then-verdict-ne0 : goal.returns-then-verdict-ne0
 returns-then-verdict-ne0 c =
     let started : let a = c.args in
     first_failing (start_tests a.xs.now a.len) ≡ 0 = start_passed _ _ c.judge_start-start.ensures c.if-start-ne0.false in
-    let f = c in
-    c.no_fixed-then-verdict-ne0.ensures ∙ fields_refused _ _ _ started f.judge_fields-verdict.ensures c.if-verdict-ne0.true
+    c.no_fixed-then-verdict-ne0.ensures ∙ fields_refused _ _ _ started c.judge_fields-verdict.ensures c.if-verdict-ne0.true
 
 pub get_i32-version-requires : goal.get_i32-version-requires
 unfolding meta1_end
 get_i32-version-requires c =
     let started : let a = c.args in
     first_failing (start_tests a.xs.now a.len) ≡ 0 = start_passed _ _ c.judge_start-start.ensures c.if-start-ne0.false in
-    let long : fixed_length ≤ length c.args.xs.now = let s = c in
-    s.requires fixed_length (start_long _ _ started) (omega arith) in
+    let long : fixed_length ≤ length c.args.xs.now = c.requires fixed_length (start_long _ _ started) (omega arith) in
     omega (arith, long)
 
 pub get_i32-patch-requires : goal.get_i32-patch-requires
@@ -91,8 +83,7 @@ unfolding meta1_end
 get_i32-patch-requires c =
     let started : let a = c.args in
     first_failing (start_tests a.xs.now a.len) ≡ 0 = start_passed _ _ c.judge_start-start.ensures c.if-start-ne0.false in
-    let long : fixed_length ≤ length c.args.xs.now = let s = c in
-    s.requires fixed_length (start_long _ _ started) (omega arith) in
+    let long : fixed_length ≤ length c.args.xs.now = c.requires fixed_length (start_long _ _ started) (omega arith) in
     omega (arith, long)
 
 pub returns : goal.returns
@@ -100,26 +91,18 @@ unfolding meta1_end
 returns c =
     let started : let a = c.args in
     first_failing (start_tests a.xs.now a.len) ≡ 0 = start_passed _ _ c.judge_start-start.ensures c.if-start-ne0.false in
-    let long : fixed_length ≤ length c.args.xs.now = let s = c in
-    s.requires fixed_length (start_long _ _ started) (omega arith) in
-    let read : let s = c in
-    FieldsRead s.args.xs.now s.judge_start-start.result.big c.get_u32-format.result c.get_u32-blocksize.result
-    c.get_u32-n.result = let e = c in
-    record {
-      order_is = order_given _ _ e.judge_start-start.ensures e.if-start-ne0.false;
+    let long : fixed_length ≤ length c.args.xs.now = c.requires fixed_length (start_long _ _ started) (omega arith) in
+    let read : FieldsRead c.args.xs.now c.judge_start-start.result.big c.get_u32-format.result c.get_u32-blocksize.result
+    c.get_u32-n.result = record {
+      order_is = order_given _ _ c.judge_start-start.ensures c.if-start-ne0.false;
       long = long;
       format_is = c.get_u32-format.ensures;
       blocksize_is = c.get_u32-blocksize.ensures;
       tasks_are = c.get_u32-n.ensures;
     } in
-    let t = c in
-    let e = t in
-    let f = e in
-    let g = f in
-    let s = g in
-    let version = to_z-of_z {w = w32} (search rules) ∙ (λ i. (t.get_i32-version.ensures i).value) in
-    let patch = to_z-of_z {w = w32} (search rules) ∙ (λ i. (t.get_i32-patch.ensures i).value) in
-    fields_passed _ _ _ started f.judge_fields-verdict.ensures e.if-verdict-ne0.false
-    ((λ i. head_of (order_number s.judge_start-start.result.big i) (version i) (patch i) g.get_u32-format.result.value
-    g.get_u32-blocksize.result.value g.get_u32-n.result.value (c.files_of.ensures i) (c.number_of.ensures i))
-    ∙ fields_read _ _ _ read ((λ i. (sym f.judge_fields-verdict.ensures i).refusal) ∙ e.if-verdict-ne0.false))
+    let version = to_z-of_z {w = w32} (search rules) ∙ (λ i. (c.get_i32-version.ensures i).value) in
+    let patch = to_z-of_z {w = w32} (search rules) ∙ (λ i. (c.get_i32-patch.ensures i).value) in
+    fields_passed _ _ _ started c.judge_fields-verdict.ensures c.if-verdict-ne0.false
+    ((λ i. head_of (order_number c.judge_start-start.result.big i) (version i) (patch i) c.get_u32-format.result.value
+    c.get_u32-blocksize.result.value c.get_u32-n.result.value (c.files_of.ensures i) (c.number_of.ensures i))
+    ∙ fields_read _ _ _ read ((λ i. (sym c.judge_fields-verdict.ensures i).refusal) ∙ c.if-verdict-ne0.false))

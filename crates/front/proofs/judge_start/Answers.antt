@@ -24,9 +24,8 @@ has_magic-requires c = c.requires 4 c.if-len-lt4.false (omega arith)
 pub returns-then-not-has_magic : goal.returns-then-not-has_magic
 unfolding start_tests
 returns-then-not-has_magic c =
-    let mark = c in
     c.no_mark-then-not-has_magic.ensures
-    ∙ refused_start _ _ (omega arith) (fails_first _ _ (rw (le-ltb _ 4 mark.if-len-lt4.false, test_fails mark.has_magic.ensures c.if-not-has_magic.true-raw)))
+    ∙ refused_start _ _ (omega arith) (fails_first _ _ (rw (le-ltb _ 4 c.if-len-lt4.false, test_fails c.has_magic.ensures c.if-not-has_magic.true-raw)))
 
 pub returns-then-len-lt8 : goal.returns-then-len-lt8
 unfolding start_tests
@@ -42,9 +41,7 @@ is_big-big-requires c = c.requires 8 c.if-len-lt8.false (omega arith)
 
 pub has_order-requires : goal.has_order-requires
 unfolding meta1_end
-has_order-requires c =
-    let long = c in
-    (long.requires 8 long.if-len-lt8.false (omega arith), c.is_big-big.ensures)
+has_order-requires c = (c.requires 8 c.if-len-lt8.false (omega arith), c.is_big-big.ensures)
 
 pub returns-then-not-has_order : goal.returns-then-not-has_order
 unfolding start_tests
@@ -52,11 +49,9 @@ returns-then-not-has_order c =
     let Left : ℕ → Type 0 = λ k. let ts = start_tests c.args.xs.now c.args.len in
     verdict ts ≡ verdict (drop k ts) in
     let left_1 : Left 1 = passes_first _ _ (rw (le-ltb _ 4 c.if-len-lt4.false, test_holds c.has_magic.ensures c.if-not-has_magic.false-raw)) in
-    let order = c in
-    let long = order in
     c.no_order-then-not-has_order.ensures
     ∙ refused_start _ _ (omega arith) (left_1
-    ∙ fails_first _ _ (rw (le-ltb _ 8 long.if-len-lt8.false, test_fails order.has_order.ensures c.if-not-has_order.true-raw)))
+    ∙ fails_first _ _ (rw (le-ltb _ 8 c.if-len-lt8.false, test_fails c.has_order.ensures c.if-not-has_order.true-raw)))
 
 pub returns-then-len-needed : goal.returns-then-len-needed
 unfolding start_tests
@@ -64,13 +59,11 @@ returns-then-len-needed c =
     let Left : ℕ → Type 0 = λ k. let ts = start_tests c.args.xs.now c.args.len in
     verdict ts ≡ verdict (drop k ts) in
     let left_1 : Left 1 = passes_first _ _ (rw (le-ltb _ 4 c.if-len-lt4.false, test_holds c.has_magic.ensures c.if-not-has_magic.false-raw)) in
-    let left_2 : let s = c in Left 2 = let long = c in
-    left_1
-    ∙ passes_first _ _ (rw (le-ltb _ 8 long.if-len-lt8.false, test_holds c.has_order.ensures c.if-not-has_order.false-raw)) in
-    let short = c in
+    let left_2 : Left 2 = left_1
+    ∙ passes_first _ _ (rw (le-ltb _ 8 c.if-len-lt8.false, test_holds c.has_order.ensures c.if-not-has_order.false-raw)) in
     c.no_start.ensures
     ∙ (λ i. record { verdict = c.not_as_needed.ensures i; big = false })
-    ∙ refused_start _ _ (omega arith) (left_2 ∙ fails_first _ _ (lt-ltb _ 1076 short.if-len-needed.true))
+    ∙ refused_start _ _ (omega arith) (left_2 ∙ fails_first _ _ (lt-ltb _ 1076 c.if-len-needed.true))
 
 pub returns : goal.returns
 unfolding start_tests
@@ -78,9 +71,6 @@ returns c =
     let Left : ℕ → Type 0 = λ k. let ts = start_tests c.args.xs.now c.args.len in
     verdict ts ≡ verdict (drop k ts) in
     let left_1 : Left 1 = passes_first _ _ (rw (le-ltb _ 4 c.if-len-lt4.false, test_holds c.has_magic.ensures c.if-not-has_magic.false-raw)) in
-    let left_2 : let s = c in Left 2 = let long = c in
-    left_1
-    ∙ passes_first _ _ (rw (le-ltb _ 8 long.if-len-lt8.false, test_holds c.has_order.ensures c.if-not-has_order.false-raw)) in
-    let long = c in
-    let big = long in
-    accepted_start _ _ c.passes.ensures (left_2 ∙ passes_last _ (le-ltb _ 1076 long.if-len-needed.false)) big.is_big-big.ensures
+    let left_2 : Left 2 = left_1
+    ∙ passes_first _ _ (rw (le-ltb _ 8 c.if-len-lt8.false, test_holds c.has_order.ensures c.if-not-has_order.false-raw)) in
+    accepted_start _ _ c.passes.ensures (left_2 ∙ passes_last _ (le-ltb _ 1076 c.if-len-needed.false)) c.is_big-big.ensures

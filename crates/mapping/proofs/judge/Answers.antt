@@ -22,9 +22,7 @@ pub returns-then-left-lt4 : goal.returns-then-left-lt4
 unfolding mapping_tests mapping_length
 returns-then-left-lt4 c =
     let len : ℕ = length c.args.image.now in
-    let t = c in
-    let s = t in
-    c.short.ensures ∙ sym (fails_first _ _ (lt-ltb len (s.args.start + 4) (omega (arith, t.if-left-lt4.true))))
+    c.short.ensures ∙ sym (fails_first _ _ (lt-ltb len (c.args.start + 4) (omega (arith, c.if-left-lt4.true))))
 
 pub returns-then-read-size : goal.returns-then-read-size
 unfolding mapping_tests
@@ -36,18 +34,14 @@ returns-then-read-size c =
     let ts : List Test = mapping_tests a.n a.m (entry a.first.now) (entry a.second.now) a.big a.image.now a.start in
     verdict ts ≡ verdict (drop k ts) in
     let len : ℕ = length c.args.image.now in
-    let left_1 : Left 1 = let s = c in
-    passes_first _ _ (le-ltb len (s.args.start + 4) (omega (arith, c.if-left-lt4.false, s.requires.2))) in
+    let left_1 : Left 1 = passes_first _ _ (le-ltb len (c.args.start + 4) (omega (arith, c.if-left-lt4.false, c.requires.2))) in
     let size_test : is size (signed 31 held) ≡ eqb held size = is_number size 31 held (omega (arith, c.requires.0.few, c.requires.1.few)) in
-    let t = c in
-    let g = t in
-    let s = c in
     c.number4.ensures
     ∙ (λ i. record {
       refusal = 25;
-      fault = number_fault Kinds.mapping_size (g.get_u32-read.ensures i).at (signed 31 (held_is i)) size size;
+      fault = number_fault Kinds.mapping_size (c.get_u32-read.ensures i).at (signed 31 (held_is i)) size size;
     })
-    ∙ sym (left_1 ∙ fails_first _ _ (ap not (size_test ∙ ne_eqb _ _ (λ e. t.if-read-size.true (held_is ∙ e)))))
+    ∙ sym (left_1 ∙ fails_first _ _ (ap not (size_test ∙ ne_eqb _ _ (λ e. c.if-read-size.true (held_is ∙ e)))))
 
 pub returns-then-left-end : goal.returns-then-left-end
 unfolding mapping_tests mapping_length
@@ -56,18 +50,14 @@ returns-then-left-end c =
     let ts : List Test = mapping_tests a.n a.m (entry a.first.now) (entry a.second.now) a.big a.image.now a.start in
     verdict ts ≡ verdict (drop k ts) in
     let len : ℕ = length c.args.image.now in
-    let left_1 : Left 1 = let s = c in
-    passes_first _ _ (le-ltb len (s.args.start + 4) (omega (arith, c.if-left-lt4.false, s.requires.2))) in
+    let left_1 : Left 1 = passes_first _ _ (le-ltb len (c.args.start + 4) (omega (arith, c.if-left-lt4.false, c.requires.2))) in
     let size : ℕ = c.args.n + c.args.m in
     let held : ℕ = let a = c.args in number_at a.big 4 a.image.now a.start in
     let size_test : is size (signed 31 held) ≡ eqb held size = is_number size 31 held (omega (arith, c.requires.0.few, c.requires.1.few)) in
     let held_is : c.get_u32-read.result.value ≡ held = λ i. (c.get_u32-read.ensures i).value in
-    let left_2 : Left 2 = let g = c in
-    left_1 ∙ passes_first _ _ (ap not (size_test ∙ eq-eqb _ _ (sym held_is ∙ c.if-read-size.false))) in
+    let left_2 : Left 2 = left_1 ∙ passes_first _ _ (ap not (size_test ∙ eq-eqb _ _ (sym held_is ∙ c.if-read-size.false))) in
     let end : ℕ = c.args.start + mapping_length c.args.n c.args.m in
-    let t = c in
-    let s = c in
-    c.short-then-left-end.ensures ∙ sym (left_2 ∙ fails_first _ _ (lt-ltb len end (omega (arith, t.if-left-end.true))))
+    c.short-then-left-end.ensures ∙ sym (left_2 ∙ fails_first _ _ (lt-ltb len end (omega (arith, c.if-left-end.true))))
 
 pub judge_entries-requires : goal.judge_entries-requires
 unfolding mapping_length
@@ -82,15 +72,11 @@ returns c =
     let ts : List Test = mapping_tests a.n a.m (entry a.first.now) (entry a.second.now) a.big a.image.now a.start in
     verdict ts ≡ verdict (drop k ts) in
     let len : ℕ = length c.args.image.now in
-    let left_1 : Left 1 = let s = c in
-    passes_first _ _ (le-ltb len (s.args.start + 4) (omega (arith, c.if-left-lt4.false, s.requires.2))) in
+    let left_1 : Left 1 = passes_first _ _ (le-ltb len (c.args.start + 4) (omega (arith, c.if-left-lt4.false, c.requires.2))) in
     let size : ℕ = c.args.n + c.args.m in
     let held : ℕ = let a = c.args in number_at a.big 4 a.image.now a.start in
     let size_test : is size (signed 31 held) ≡ eqb held size = is_number size 31 held (omega (arith, c.requires.0.few, c.requires.1.few)) in
     let held_is : c.get_u32-read.result.value ≡ held = λ i. (c.get_u32-read.ensures i).value in
-    let left_2 : Left 2 = let g = c in
-    left_1 ∙ passes_first _ _ (ap not (size_test ∙ eq-eqb _ _ (sym held_is ∙ c.if-read-size.false))) in
+    let left_2 : Left 2 = left_1 ∙ passes_first _ _ (ap not (size_test ∙ eq-eqb _ _ (sym held_is ∙ c.if-read-size.false))) in
     let end : ℕ = c.args.start + mapping_length c.args.n c.args.m in
-    let e = c in
-    let s = c in
-    c.judge_entries.ensures ∙ sym (left_2 ∙ passes_first _ _ (le-ltb len end (omega (arith, e.if-left-end.false, s.requires.2))))
+    c.judge_entries.ensures ∙ sym (left_2 ∙ passes_first _ _ (le-ltb len end (omega (arith, c.if-left-end.false, c.requires.2))))

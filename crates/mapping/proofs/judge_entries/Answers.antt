@@ -18,14 +18,12 @@ pub loop-rank-init : goal.loop-rank-init
 loop-rank-init c =
     let Of : ℕ → List Test = let a = c.args in entry_tests a.n a.m (entry a.first.now) (entry a.second.now) a.big a.image.now a.start in
     let numbered : (k : ℕ) → Numbered (Of k) = λ k. let a = c.args in entry_numbered a.n a.m (entry a.first.now) (entry a.second.now) a.big a.image.now a.start k in
-    let s = c in (omega arith, ask_none (Of) numbered)
+    (omega arith, ask_none (Of) numbered)
 
 pub judge_entry-verdict-requires : goal.judge_entry-verdict-requires
 unfolding mapping_length
 judge_entry-verdict-requires c =
-    let s = c in
-    let p = s.requires in
-    let below = c.loop-rank-test.true in
+    let p = c.requires in
     (p.0, p.1, omega (arith, p.0.few, p.1.few), omega (arith, p.2))
 
 pub returns-then-verdict-ne0 : goal.returns-then-verdict-ne0
@@ -33,24 +31,18 @@ returns-then-verdict-ne0 c =
     let Of : ℕ → List Test = let a = c.args in entry_tests a.n a.m (entry a.first.now) (entry a.second.now) a.big a.image.now a.start in
     let number_is : c.judge_entry-verdict.result.refusal ≡ first_failing (Of c.loop-rank.rank) = λ i. (c.judge_entry-verdict.ensures i).refusal in
     let numbered : (k : ℕ) → Numbered (Of k) = λ k. let a = c.args in entry_numbered a.n a.m (entry a.first.now) (entry a.second.now) a.big a.image.now a.start k in
-    let j = c in
-    let t = j in
-    let s = c in
-    let a = s.args in
-    let l = t.loop-rank in
+    let a = c.args in
+    let l = c.loop-rank in
     let fails : 0 < first_failing (Of l.rank) =
     ⊎_elim (λ z. absurd (c.if-verdict-ne0.true (number_is ∙ z))) (λ p. p) (eq-zero-or-pos _) in
-    j.judge_entry-verdict.ensures ∙ sym (ask_fails (Of) numbered (a.n + a.m) l.rank t.loop-rank-test.true l.invariant.1 fails)
+    c.judge_entry-verdict.ensures ∙ sym (ask_fails (Of) numbered (a.n + a.m) l.rank c.loop-rank-test.true l.invariant.1 fails)
 
 pub loop-rank-preserved : goal.loop-rank-preserved
 loop-rank-preserved c =
     let Of : ℕ → List Test = let a = c.args in entry_tests a.n a.m (entry a.first.now) (entry a.second.now) a.big a.image.now a.start in
     let numbered : (k : ℕ) → Numbered (Of k) = λ k. let a = c.args in entry_numbered a.n a.m (entry a.first.now) (entry a.second.now) a.big a.image.now a.start k in
     let number_is : c.judge_entry-verdict.result.refusal ≡ first_failing (Of c.loop-rank.rank) = λ i. (c.judge_entry-verdict.ensures i).refusal in
-    let j = c in
-    let t = j in
-    let s = c in
-    let l = t.loop-rank in
+    let l = c.loop-rank in
     (search rules, ask_more (Of) numbered l.rank l.invariant.1 (sym number_is ∙ c.if-verdict-ne0.false))
 
 pub returns : goal.returns
@@ -58,8 +50,7 @@ returns c =
     let Of : ℕ → List Test = let a = c.args in entry_tests a.n a.m (entry a.first.now) (entry a.second.now) a.big a.image.now a.start in
     let numbered : (k : ℕ) → Numbered (Of k) = λ k. let a = c.args in entry_numbered a.n a.m (entry a.first.now) (entry a.second.now) a.big a.image.now a.start k in
     let l = c.loop-rank in
-    let s = c in
-    let a = s.args in
+    let a = c.args in
     let all : l.rank ≡ a.n + a.m = le_antisymm l.invariant.0 c.loop-rank-test.false in
     c.passes.ensures
     ∙ sym (ask_all (Of) numbered (a.n + a.m) (subst (λ (k : ℕ). first_failing (join_below k (Of)) ≡ 0) all l.invariant.1))

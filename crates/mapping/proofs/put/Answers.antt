@@ -16,34 +16,25 @@ use Rattle.mapping.proofs.put.Goals as goal
 
 pub put_entries-requires : goal.put_entries-requires
 put_entries-requires c =
-    let h = c in
-    let s = c in
-    let few = s.requires.n_le_max_tasks in
-    (rw h.all_holders-holders.ensures (all_held _ _ _ _ few.0 few.1 s.requires.second_value), omega (arith, few, c.put_u32.auto.s))
+    let few = c.requires.n_le_max_tasks in
+    (rw c.all_holders-holders.ensures (all_held _ _ _ _ few.0 few.1 c.requires.second_value), omega (arith, few, c.put_u32.auto.s))
 
 pub copy_within-requires : goal.copy_within-requires
 unfolding mapping_length
-copy_within-requires c =
-    let h = c in
-    simp (length-take, length-drop) (omega (arith, c.requires))
+copy_within-requires c = simp (length-take, length-drop) (omega (arith, c.requires))
 
 pub returns : goal.returns
 unfolding mapping_length
 returns c =
-    let copy = c in
-    let put = copy in
-    let h = put in
-    let u = h in
-    let s = c in
-    let a = s.args in
-    let few = s.requires.n_le_max_tasks in
+    let a = c.args in
+    let few = c.requires.n_le_max_tasks in
     let rank = entry a.first.now in
     let rank' = entry a.second.now in
     let xs = a.image.now in
-    let row = ap (λ (held : List ℕ). splice u.put_u32.new.s 4
-    (join_below (a.n + a.m) (λ r. entry_bytes a.big (ltb a.n (entry held r)) (task_in a.n (entry held r))))) h.all_holders-holders.ensures in
-    let made = mapping_made a.n a.m rank rank' a.big (replicate {A = ℕ} 1028 0) (omega arith) u.put_u32.ensures
-    (put.put_entries.ensures ∙ row ∙ ap (splice u.put_u32.new.s 4) (entries_are a.n a.m rank rank' a.big few.0 few.1 s.requires.second_value)) in
+    let row = ap (λ (held : List ℕ). splice c.put_u32.new.s 4
+    (join_below (a.n + a.m) (λ r. entry_bytes a.big (ltb a.n (entry held r)) (task_in a.n (entry held r))))) c.all_holders-holders.ensures in
+    let made = mapping_made a.n a.m rank rank' a.big (replicate {A = ℕ} 1028 0) (omega arith) c.put_u32.ensures
+    (c.put_entries.ensures ∙ row ∙ ap (splice c.put_u32.new.s 4) (entries_are a.n a.m rank rank' a.big few.0 few.1 c.requires.second_value)) in
     let long = length_mapping a.n a.m rank rank' a.big in
-    spends_part a.budget xs a.at (length xs - a.at) _ (omega (arith, long, s.requires)) (omega (arith, s.requires))
-    (spends_same refl made copy.copy_within.ensures)
+    spends_part a.budget xs a.at (length xs - a.at) _ (omega (arith, long, c.requires)) (omega (arith, c.requires))
+    (spends_same refl made c.copy_within.ensures)

@@ -41,16 +41,12 @@ overflow_cast-task c =
 
 pub loop-r-preserved : goal.loop-r-preserved
 loop-r-preserved c =
-    let e = c in
-    let t = e in
     let l = c.loop-r in
-    let s = c in
-    let a = s.args in
-    let below = c.loop-r-test.true in
+    let a = c.args in
     let holder : ℕ = entry a.holders.now l.r in (
       omega arith,
       search rules,
       join_then a.bytes.now 4 8 (of a.holders.now a.n a.big) (same a.holders.now a.n a.big) l.r l.invariant.2
-          (e.put_entry.ensures ∙ ap (λ (task : ℕ). splice l.bytes (4 + 8 * l.r) (entry_bytes a.big (ltb a.n holder) task)) t.task_in-task.ensures)
-          (omega (arith, s.requires.1)),
+          (c.put_entry.ensures ∙ ap (λ (task : ℕ). splice l.bytes (4 + 8 * l.r) (entry_bytes a.big (ltb a.n holder) task)) c.task_in-task.ensures)
+          (omega (arith, c.requires.1)),
     )

@@ -47,17 +47,6 @@ unfolding pair_loaded
 returns-clause-value c =
     let answer : let a = c.args in
     c.check-answer.result ≡ pair_checked a.image0.now a.image1.now (length a.table0.now) (length a.table1.now) = c.check-answer.ensures in
-    let one : let a = c.args in
-    first_of c.check-answer.result ≡ check_answer First a.image0.now (length a.table0.now) = let a = c.args in
-    first_checked a.image0.now a.image1.now a.table0.now a.table1.now answer c.if-answer-ne0.false in
-    let two : let a = c.args in
-    second_of c.check-answer.result ≡ check_answer Second a.image1.now (length a.table1.now) = let a = c.args in
-    second_checked a.image0.now a.image1.now a.table0.now a.table1.now answer c.if-answer-ne0.false in
-    let f' = c in
-    let f = c in
-    let e = c in
-    let first = table_filled First _ _ one refl f.fill.ensures in
-    let second = table_filled Second _ _ two refl f'.fill-2.ensures in
     answer
 
 pub returns-clause-table1_after : goal.returns-clause-table1_after
@@ -71,9 +60,6 @@ returns-clause-table1_after c =
     let two : let a = c.args in
     second_of c.check-answer.result ≡ check_answer Second a.image1.now (length a.table1.now) = let a = c.args in
     second_checked a.image0.now a.image1.now a.table0.now a.table1.now answer c.if-answer-ne0.false in
-    let f' = c in
-    let f = c in
-    let e = c in
-    let first = table_filled First _ _ one refl f.fill.ensures in
-    let second = table_filled Second _ _ two refl f'.fill-2.ensures in
-    (λ i. (first i, second i)) ∙ tables_filled _ _ _ _ answer e.if-answer-ne0.false
+    let first = table_filled First _ _ one refl c.fill.ensures in
+    let second = table_filled Second _ _ two refl c.fill-2.ensures in
+    (λ i. (first i, second i)) ∙ tables_filled _ _ _ _ answer c.if-answer-ne0.false

@@ -23,9 +23,7 @@ returns-then-refusal-ne0-clause-value c =
     pair_of (state_of First a.s0 a.lists0.now a.image0.now a.table0.now)
     (state_of Second a.s1 a.lists1.now a.image1.now a.table1.now) in
     let asked : Request = request_of c.args.rank c.args.bytes.now in
-    let r = c in
-    let s = c in
-    let e = r.sessions_refusal-refusal.ensures in
+    let e = c.sessions_refusal-refusal.ensures in
     let number = tests_refuse lent asked (omega (arith, e, c.if-refusal-ne0.true)) in
     e ∙ sym number
 
@@ -35,11 +33,9 @@ returns-then-refusal-ne0-clause-table1_after c =
     pair_of (state_of First a.s0 a.lists0.now a.image0.now a.table0.now)
     (state_of Second a.s1 a.lists1.now a.image1.now a.table1.now) in
     let asked : Request = request_of c.args.rank c.args.bytes.now in
-    let r = c in
-    let s = c in
-    let e = r.sessions_refusal-refusal.ensures in
+    let e = c.sessions_refusal-refusal.ensures in
     let number = tests_refuse lent asked (omega (arith, e, c.if-refusal-ne0.true)) in
-    sym (write_refused lent asked s.args.budget0 s.args.budget1 (omega (arith, number, e, c.if-refusal-ne0.true)))
+    sym (write_refused lent asked c.args.budget0 c.args.budget1 (omega (arith, number, e, c.if-refusal-ne0.true)))
 
 pub returns-then-n-s1-clause-value : goal.returns-then-n-s1-clause-value
 returns-then-n-s1-clause-value c =
@@ -48,8 +44,6 @@ returns-then-n-s1-clause-value c =
     (state_of Second a.s1 a.lists1.now a.image1.now a.table1.now) in
     let asked : Request = request_of c.args.rank c.args.bytes.now in
     let passes : first_failing (pair_tests lent) ≡ 0 = sym c.sessions_refusal-refusal.ensures ∙ c.if-refusal-ne0.false in
-    let e = c in
-    let s = c in
     let number = rank_refused lent asked passes (omega (arith, c.if-n-s1.true)) in
     sym number
 
@@ -60,10 +54,8 @@ returns-then-n-s1-clause-table1_after c =
     (state_of Second a.s1 a.lists1.now a.image1.now a.table1.now) in
     let asked : Request = request_of c.args.rank c.args.bytes.now in
     let passes : first_failing (pair_tests lent) ≡ 0 = sym c.sessions_refusal-refusal.ensures ∙ c.if-refusal-ne0.false in
-    let e = c in
-    let s = c in
     let number = rank_refused lent asked passes (omega (arith, c.if-n-s1.true)) in
-    sym (write_refused lent asked s.args.budget0 s.args.budget1 (omega (arith, number)))
+    sym (write_refused lent asked c.args.budget0 c.args.budget1 (omega (arith, number)))
 
 pub task_of-task-requires : goal.task_of-task-requires
 task_of-task-requires c =
@@ -82,7 +74,6 @@ request-requires-clause-table_value c =
     (state_of Second a.s1 a.lists1.now a.image1.now a.table1.now) in
     let passes : first_failing (pair_tests lent) ≡ 0 = sym c.sessions_refusal-refusal.ensures ∙ c.if-refusal-ne0.false in
     let own_second : file_in c.args.s1.head ≡ Second = session_file _ (pair_passed _ passes).1 in
-    let e = c in
     rw own_second (pair_passed _ passes).1
 
 pub returns-then-n-task-clause-value : goal.returns-then-n-task-clause-value
@@ -91,20 +82,15 @@ returns-then-n-task-clause-value c =
     pair_of (state_of First a.s0 a.lists0.now a.image0.now a.table0.now)
     (state_of Second a.s1 a.lists1.now a.image1.now a.table1.now) in
     let passes : first_failing (pair_tests lent) ≡ 0 = sym c.sessions_refusal-refusal.ensures ∙ c.if-refusal-ne0.false in
-    let below : let s = c in s.args.rank < size lent = omega (arith, c.if-n-s1.false) in
+    let below : c.args.rank < size lent = omega (arith, c.if-n-s1.false) in
     let asked : Request = request_of c.args.rank c.args.bytes.now in
     let own_second : file_in c.args.s1.head ≡ Second = session_file _ (pair_passed _ passes).1 in
-    let r = c in
-    let i = r in
-    let t = i in
-    let e = c in
-    let s = c in
     let p = lent in
-    let a = s.args in
-    let is = t.task_of-task.ensures in
-    let at = found_second _ _ _ _ (pair_passed p passes).2 a.rank below (omega (arith, is, i.if-n-task.true)) in
+    let a = c.args in
+    let is = c.task_of-task.ensures in
+    let at = found_second _ _ _ _ (pair_passed p passes).2 a.rank below (omega (arith, is, c.if-n-task.true)) in
     let done = in_second_file p asked passes below at.0 (sym at.1 ∙ ap (λ (x : ℕ). x - a.s0.head.n) (sym is)) in
-    let own = rw own_second at r.request.ensures in
+    let own = rw own_second at c.request.ensures in
     own.value ∙ sym done.0
 
 pub returns-then-n-task-clause-table1_after : goal.returns-then-n-task-clause-table1_after
@@ -113,20 +99,15 @@ returns-then-n-task-clause-table1_after c =
     pair_of (state_of First a.s0 a.lists0.now a.image0.now a.table0.now)
     (state_of Second a.s1 a.lists1.now a.image1.now a.table1.now) in
     let passes : first_failing (pair_tests lent) ≡ 0 = sym c.sessions_refusal-refusal.ensures ∙ c.if-refusal-ne0.false in
-    let below : let s = c in s.args.rank < size lent = omega (arith, c.if-n-s1.false) in
+    let below : c.args.rank < size lent = omega (arith, c.if-n-s1.false) in
     let asked : Request = request_of c.args.rank c.args.bytes.now in
     let own_second : file_in c.args.s1.head ≡ Second = session_file _ (pair_passed _ passes).1 in
-    let r = c in
-    let i = r in
-    let t = i in
-    let e = c in
-    let s = c in
     let p = lent in
-    let a = s.args in
-    let is = t.task_of-task.ensures in
-    let at = found_second _ _ _ _ (pair_passed p passes).2 a.rank below (omega (arith, is, i.if-n-task.true)) in
+    let a = c.args in
+    let is = c.task_of-task.ensures in
+    let at = found_second _ _ _ _ (pair_passed p passes).2 a.rank below (omega (arith, is, c.if-n-task.true)) in
     let done = in_second_file p asked passes below at.0 (sym at.1 ∙ ap (λ (x : ℕ). x - a.s0.head.n) (sym is)) in
-    let own = rw own_second at r.request.ensures in
+    let own = rw own_second at c.request.ensures in
     ap (pair_of p.first) own.table_after ∙ sym (done.1 a.budget0 a.budget1)
 
 pub request-requires-2-clause-table_value : goal.request-requires-2-clause-table_value
@@ -136,7 +117,6 @@ request-requires-2-clause-table_value c =
     (state_of Second a.s1 a.lists1.now a.image1.now a.table1.now) in
     let passes : first_failing (pair_tests lent) ≡ 0 = sym c.sessions_refusal-refusal.ensures ∙ c.if-refusal-ne0.false in
     let own_first : file_in c.args.s0.head ≡ First = session_file _ (pair_passed _ passes).0 in
-    let e = c in
     rw own_first (pair_passed _ passes).0
 
 pub returns-clause-value : goal.returns-clause-value
@@ -145,20 +125,15 @@ returns-clause-value c =
     pair_of (state_of First a.s0 a.lists0.now a.image0.now a.table0.now)
     (state_of Second a.s1 a.lists1.now a.image1.now a.table1.now) in
     let passes : first_failing (pair_tests lent) ≡ 0 = sym c.sessions_refusal-refusal.ensures ∙ c.if-refusal-ne0.false in
-    let below : let s = c in s.args.rank < size lent = omega (arith, c.if-n-s1.false) in
+    let below : c.args.rank < size lent = omega (arith, c.if-n-s1.false) in
     let asked : Request = request_of c.args.rank c.args.bytes.now in
     let own_first : file_in c.args.s0.head ≡ First = session_file _ (pair_passed _ passes).0 in
-    let r = c in
-    let i = r in
-    let t = i in
-    let e = c in
-    let s = c in
     let p = lent in
-    let a = s.args in
-    let is = t.task_of-task.ensures in
-    let at = found_first _ _ _ _ (pair_passed p passes).2 a.rank below (omega (arith, is, i.if-n-task.false)) in
+    let a = c.args in
+    let is = c.task_of-task.ensures in
+    let at = found_first _ _ _ _ (pair_passed p passes).2 a.rank below (omega (arith, is, c.if-n-task.false)) in
     let done = in_first p asked passes below at.0 (sym at.1 ∙ sym is) in
-    let own = rw own_first at r.request-2.ensures in
+    let own = rw own_first at c.request-2.ensures in
     own.value ∙ sym done.0
 
 pub returns-clause-table1_after : goal.returns-clause-table1_after
@@ -167,18 +142,13 @@ returns-clause-table1_after c =
     pair_of (state_of First a.s0 a.lists0.now a.image0.now a.table0.now)
     (state_of Second a.s1 a.lists1.now a.image1.now a.table1.now) in
     let passes : first_failing (pair_tests lent) ≡ 0 = sym c.sessions_refusal-refusal.ensures ∙ c.if-refusal-ne0.false in
-    let below : let s = c in s.args.rank < size lent = omega (arith, c.if-n-s1.false) in
+    let below : c.args.rank < size lent = omega (arith, c.if-n-s1.false) in
     let asked : Request = request_of c.args.rank c.args.bytes.now in
     let own_first : file_in c.args.s0.head ≡ First = session_file _ (pair_passed _ passes).0 in
-    let r = c in
-    let i = r in
-    let t = i in
-    let e = c in
-    let s = c in
     let p = lent in
-    let a = s.args in
-    let is = t.task_of-task.ensures in
-    let at = found_first _ _ _ _ (pair_passed p passes).2 a.rank below (omega (arith, is, i.if-n-task.false)) in
+    let a = c.args in
+    let is = c.task_of-task.ensures in
+    let at = found_first _ _ _ _ (pair_passed p passes).2 a.rank below (omega (arith, is, c.if-n-task.false)) in
     let done = in_first p asked passes below at.0 (sym at.1 ∙ sym is) in
-    let own = rw own_first at r.request-2.ensures in
+    let own = rw own_first at c.request-2.ensures in
     ap (λ (st : State). pair_of st p.second) own.table_after ∙ sym (done.1 a.budget0 a.budget1)

@@ -4,8 +4,4 @@ use Rattle.ranks.proofs.Holding.{holders_are}
 use Rattle.ranks.proofs.all_holders.Goals as goal
 
 pub returns : goal.returns
-returns c =
-    let two = c in
-    let one = two in
-    let s = one in
-    holders_are _ _ _ _ (omega (arith, s.requires)) one.put_holders.ensures two.put_holders-2.ensures
+returns c = holders_are _ _ _ _ (omega (arith, c.requires)) c.put_holders.ensures c.put_holders-2.ensures

@@ -20,7 +20,6 @@ returns-then-found-r-eq0 c =
     → let a = c.args in
     r < a.n + a.m → entry c.all_holders-found.result r ≡ holder a.n a.m (entry a.first.now) (entry a.second.now) r = λ r l. ap (λ xs. entry xs r) c.all_holders-found.ensures ∙ holder_at _ _ _ _ r (omega (arith, c.requires)) l in
     let l = c.loop-r in
-    let h = c in
     let below = c.loop-r-test.true in
     all_fails _ l.r below (ap not (eq-eqb _ 0 (sym (held l.r below) ∙ c.if-found-r-eq0.true))) ∙ sym (lacking_held _ _ _ _)
 
@@ -30,7 +29,6 @@ loop-r-preserved c =
     → let a = c.args in
     r < a.n + a.m → entry c.all_holders-found.result r ≡ holder a.n a.m (entry a.first.now) (entry a.second.now) r = λ r l. ap (λ xs. entry xs r) c.all_holders-found.ensures ∙ holder_at _ _ _ _ r (omega (arith, c.requires)) l in
     let l = c.loop-r in
-    let h = c in
     let below = c.loop-r-test.true in
     (search rules, all_more _ l.r l.invariant.1 (ap not (ne_eqb _ 0 (λ e. c.if-found-r-eq0.false (held l.r below ∙ e)))))
 

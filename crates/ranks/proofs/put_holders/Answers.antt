@@ -8,9 +8,7 @@ use Rattle.ranks.proofs.put_holders.Goals.{then-rank-size+then-holders-at-eq0, t
 pub loop-i-preserved : goal.loop-i-preserved
 loop-i-preserved c =
     let l = c.loop-i in
-    let s = c in
-    let h = l.invariant.1 in
-    let long = h.as_long in (
+    let h = l.invariant.1 in (
       search rules,
       elim c.if-rank-size.branch [
         | then-rank-size+then-holders-at-eq0 w ↦ rw w.holders-is (held_put _ _ _ _ h (search rules) (omega arith) (search rules))

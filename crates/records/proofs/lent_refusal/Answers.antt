@@ -26,13 +26,11 @@ unfolding first_failing too_short cells_agree holds
 returns-then-not-cells_ok c =
     let long : let a = c.args in
     ltb (length a.image.now) (meta2_end a.h.blocksize a.h.n (size_of a.lists.now) a.m) ≡ false = rw (← c.meta2_end.ensures) (le-ltb _ c.meta2_end.result c.if-image-meta2_end.false) in
-    let t = c in
-    simp (long, le-ltb _ _ t.if-table-n.false, test_fails c.cells_ok.ensures c.if-not-cells_ok.true-raw)
+    simp (long, le-ltb _ _ c.if-table-n.false, test_fails c.cells_ok.ensures c.if-not-cells_ok.true-raw)
 
 pub returns : goal.returns
 unfolding first_failing too_short cells_agree holds
 returns c =
     let long : let a = c.args in
     ltb (length a.image.now) (meta2_end a.h.blocksize a.h.n (size_of a.lists.now) a.m) ≡ false = rw (← c.meta2_end.ensures) (le-ltb _ c.meta2_end.result c.if-image-meta2_end.false) in
-    let t = c in
-    simp (long, le-ltb _ _ t.if-table-n.false, test_holds c.cells_ok.ensures c.if-not-cells_ok.false-raw)
+    simp (long, le-ltb _ _ c.if-table-n.false, test_holds c.cells_ok.ensures c.if-not-cells_ok.false-raw)

@@ -22,18 +22,15 @@ returns-then-not-maxchunks_ok c =
 pub counts_ok-requires : goal.counts_ok-requires
 counts_ok-requires c =
     let sound_head : let a = c.args in head_sound a.l.head a.lists.now ≡ true = test_holds c.head_ok.ensures c.if-not-head_ok.false-raw in
-    let e = c in
-    let s = c in
-    omega (arith, head_tasks _ _ sound_head, length_counts s.args.lists.now s.requires)
+    omega (arith, head_tasks _ _ sound_head, length_counts c.args.lists.now c.requires)
 
 pub returns-then-not-counts_ok : goal.returns-then-not-counts_ok
 unfolding loaded_sound
 returns-then-not-counts_ok c =
     let sound_head : let a = c.args in head_sound a.l.head a.lists.now ≡ true = test_holds c.head_ok.ensures c.if-not-head_ok.false-raw in
-    let e = c in
     rw (
       sound_head,
-      test_holds e.maxchunks_ok.ensures e.if-not-maxchunks_ok.false-raw,
+      test_holds c.maxchunks_ok.ensures c.if-not-maxchunks_ok.false-raw,
       test_fails c.counts_ok.ensures c.if-not-counts_ok.true-raw,
     )
 
@@ -41,10 +38,9 @@ pub returns : goal.returns
 unfolding loaded_sound
 returns c =
     let sound_head : let a = c.args in head_sound a.l.head a.lists.now ≡ true = test_holds c.head_ok.ensures c.if-not-head_ok.false-raw in
-    let e = c in
     rw (
       sound_head,
-      test_holds e.maxchunks_ok.ensures e.if-not-maxchunks_ok.false-raw,
+      test_holds c.maxchunks_ok.ensures c.if-not-maxchunks_ok.false-raw,
       test_holds c.counts_ok.ensures c.if-not-counts_ok.false-raw,
     )
     c.suits.ensures

@@ -6,13 +6,12 @@ use Rattle.format.proofs.LoadedRecords.{loaded_holds}
 use Rattle.records.proofs.loaded_refusal.Goals as goal
 
 pub record_refusal-requires : goal.record_refusal-requires
-record_refusal-requires c =
-    let s = c in (
-      s.requires,
-      λ e.
-          let (head, few, _) = loaded_holds s.args.file s.args.l s.args.lists.now (sym c.loaded_ok-sound.ensures ∙ e) in
-          (head_kept _ _ head s.requires, few),
-    )
+record_refusal-requires c = (
+  c.requires,
+  λ e.
+      let (head, few, _) = loaded_holds c.args.file c.args.l c.args.lists.now (sym c.loaded_ok-sound.ensures ∙ e) in
+      (head_kept _ _ head c.requires, few),
+)
 
 pub returns : goal.returns
 unfolding loaded_tests

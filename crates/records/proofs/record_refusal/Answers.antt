@@ -22,4 +22,4 @@ unfolding first_failing record_tests
 returns c =
     let not_closed : eqb c.args.closed 0 ≡ true = eq-eqb _ 0 c.if-closed-ne0.false in
     let sound : c.args.sound ≡ true = not-false _ c.if-not-sound.false-raw in
-    let e = c in rw (not_closed, sound) c.lent_refusal.ensures
+    rw (not_closed, sound) c.lent_refusal.ensures

@@ -28,9 +28,7 @@ returns-then-not-planned_ok c =
 pub first_outside-requires : goal.first_outside-requires
 first_outside-requires c =
     let sound_head : let a = c.args in head_sound a.s.head a.lists.now ≡ true = test_holds c.head_ok.ensures c.if-not-head_ok.false-raw in
-    let h = c in
-    let s = c in
-    omega (arith, head_tasks _ _ sound_head, length_counts s.args.lists.now s.requires)
+    omega (arith, head_tasks _ _ sound_head, length_counts c.args.lists.now c.requires)
 
 pub returns-then-first_outside-n : goal.returns-then-first_outside-n
 unfolding session_sound
@@ -40,9 +38,7 @@ returns-then-first_outside-n c =
     eqb c.first_outside.result a.s.head.n
     ≡ all_below a.s.head.n
     (λ i. within (least_count a.s.head.format) a.s.planned (pos (count_of a.lists.now i))) = rw (← c.least_count-least.ensures) (rw c.first_outside.ensures (all_first _ _)) in
-    let o = c in
-    let e = o in
-    rw (sound_head, test_holds e.planned_ok.ensures e.if-not-planned_ok.false-raw, ← counts_are, ne_eqb _ _ c.if-first_outside-n.true)
+    rw (sound_head, test_holds c.planned_ok.ensures c.if-not-planned_ok.false-raw, ← counts_are, ne_eqb _ _ c.if-first_outside-n.true)
 
 pub returns : goal.returns
 unfolding session_sound
@@ -52,7 +48,5 @@ returns c =
     eqb c.first_outside.result a.s.head.n
     ≡ all_below a.s.head.n
     (λ i. within (least_count a.s.head.format) a.s.planned (pos (count_of a.lists.now i))) = rw (← c.least_count-least.ensures) (rw c.first_outside.ensures (all_first _ _)) in
-    let o = c in
-    let e = o in
-    rw (sound_head, test_holds e.planned_ok.ensures e.if-not-planned_ok.false-raw, ← counts_are, eq-eqb _ _ c.if-first_outside-n.false)
+    rw (sound_head, test_holds c.planned_ok.ensures c.if-not-planned_ok.false-raw, ← counts_are, eq-eqb _ _ c.if-first_outside-n.false)
     c.suits.ensures

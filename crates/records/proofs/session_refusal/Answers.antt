@@ -5,13 +5,12 @@ use Rattle.format.proofs.Sessions.{session_holds}
 use Rattle.records.proofs.session_refusal.Goals as goal
 
 pub record_refusal-requires : goal.record_refusal-requires
-record_refusal-requires c =
-    let s = c in (
-      s.requires,
-      λ e.
-          let (head, few, _) = (session_holds s.args.file s.args.s s.args.lists.now (sym c.session_ok-sound.ensures ∙ e)).1 in
-          (head_kept _ _ head s.requires, few),
-    )
+record_refusal-requires c = (
+  c.requires,
+  λ e.
+      let (head, few, _) = (session_holds c.args.file c.args.s c.args.lists.now (sym c.session_ok-sound.ensures ∙ e)).1 in
+      (head_kept _ _ head c.requires, few),
+)
 
 pub returns : goal.returns
 unfolding session_tests

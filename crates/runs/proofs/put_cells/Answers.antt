@@ -21,9 +21,8 @@ loop-j-init c = let a = c.args in (search rules, refl, join_none a.image.now a.a
 
 pub loop-j-preserved : goal.loop-j-preserved
 loop-j-preserved c =
-    let x = c in
-    let l = x.loop-j in
-    let a = x.args in
+    let l = c.loop-j in
+    let a = c.args in
     let f : ℕ → List ℕ = λ k. signed_digits a.big 8 (get_or a.table.now k (pos 0)) in
     let fits = sfits_of c.put_i64-arg-in-loop-j-1.given in
     let stored = c.put_i64.ensures ∙ store_signed l.image _ a.big w64 8 {z = get_or a.table.now l.j (pos 0)} fits in (
@@ -34,29 +33,26 @@ loop-j-preserved c =
 
 pub returns-then-whole-cells : goal.returns-then-whole-cells
 returns-then-whole-cells c =
-    let within = c in
-    let x = within in
-    let l = x.loop-j in
-    let room = x.whole_numbers-whole.ensures in
-    let whole = x.whole_numbers-whole.result in
-    let z = x in
+    let l = c.loop-j in
+    let room = c.whole_numbers-whole.ensures in
+    let whole = c.whole_numbers-whole.result in
+    let z = c in
     let a = z.args in
     let f : ℕ → List ℕ = λ k. signed_digits a.big 8 (get_or a.table.now k (pos 0)) in
-    let all = le_antisymm l.invariant.0 within.loop-j-test.false in
-    let fits = sfits_of within.put_i64_within-arg-then-whole-cells-1.given in
-    runs_cut a.budget a.image.now a.at 8 f (λ k. length_digits a.big 8 _) whole a.cells within.if-whole-cells.true room.room
-    (room.next_short within.if-whole-cells.true) (omega (arith, z.requires)) (rw all at l.invariant.2)
-    (spends_signed a.big w64 8 {z = get_or a.table.now whole (pos 0)} fits within.put_i64_within.ensures)
+    let all = le_antisymm l.invariant.0 c.loop-j-test.false in
+    let fits = sfits_of c.put_i64_within-arg-then-whole-cells-1.given in
+    runs_cut a.budget a.image.now a.at 8 f (λ k. length_digits a.big 8 _) whole a.cells c.if-whole-cells.true room.room
+    (room.next_short c.if-whole-cells.true) (omega (arith, z.requires)) (rw all at l.invariant.2)
+    (spends_signed a.big w64 8 {z = get_or a.table.now whole (pos 0)} fits c.put_i64_within.ensures)
 
 pub returns : goal.returns
 returns c =
-    let x = c in
-    let l = x.loop-j in
-    let room = x.whole_numbers-whole.ensures in
-    let a = x.args in
+    let l = c.loop-j in
+    let room = c.whole_numbers-whole.ensures in
+    let a = c.args in
     let f : ℕ → List ℕ = λ k. signed_digits a.big 8 (get_or a.table.now k (pos 0)) in
     let all = le_antisymm l.invariant.0 c.loop-j-test.false in
-    let whole = x.whole_numbers-whole.result in
+    let whole = c.whole_numbers-whole.result in
     let every : whole ≡ a.cells = le_antisymm room.few (omega arith) in
     spends_same refl (ap (λ (k : ℕ). join_below k f) every)
     (runs_whole a.budget a.image.now a.at 8 f (λ k. length_digits a.big 8 _) whole room.room (rw all at l.invariant.2))

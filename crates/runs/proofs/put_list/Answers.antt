@@ -18,9 +18,8 @@ loop-i-init c = let a = c.args in (search rules, refl, join_none a.image.now a.a
 
 pub loop-i-preserved : goal.loop-i-preserved
 loop-i-preserved c =
-    let x = c in
-    let l = x.loop-i in
-    let a = x.args in
+    let l = c.loop-i in
+    let a = c.args in
     let f : ℕ → List ℕ = λ j. digits a.big 8 (get_or a.values.now j 0) in (
       search rules,
       search rules,
@@ -29,27 +28,23 @@ loop-i-preserved c =
 
 pub returns-then-whole-n : goal.returns-then-whole-n
 returns-then-whole-n c =
-    let within = c in
-    let x = within in
-    let l = x.loop-i in
-    let room = x.whole_numbers-whole.ensures in
-    let whole = x.whole_numbers-whole.result in
-    let z = x in
-    let a = z.args in
+    let l = c.loop-i in
+    let room = c.whole_numbers-whole.ensures in
+    let whole = c.whole_numbers-whole.result in
+    let a = c.args in
     let f : ℕ → List ℕ = λ j. digits a.big 8 (get_or a.values.now j 0) in
-    let all = le_antisymm l.invariant.0 within.loop-i-test.false in
-    runs_cut a.budget a.image.now a.at 8 f (λ j. length_digits a.big 8 _) whole a.n within.if-whole-n.true room.room
-    (room.next_short within.if-whole-n.true) (omega (arith, z.requires)) (rw all at l.invariant.2) within.put_u64_within.ensures
+    let all = le_antisymm l.invariant.0 c.loop-i-test.false in
+    runs_cut a.budget a.image.now a.at 8 f (λ j. length_digits a.big 8 _) whole a.n c.if-whole-n.true room.room
+    (room.next_short c.if-whole-n.true) (omega (arith, c.requires)) (rw all at l.invariant.2) c.put_u64_within.ensures
 
 pub returns : goal.returns
 returns c =
-    let x = c in
-    let l = x.loop-i in
-    let room = x.whole_numbers-whole.ensures in
-    let a = x.args in
+    let l = c.loop-i in
+    let room = c.whole_numbers-whole.ensures in
+    let a = c.args in
     let f : ℕ → List ℕ = λ j. digits a.big 8 (get_or a.values.now j 0) in
     let all = le_antisymm l.invariant.0 c.loop-i-test.false in
-    let whole = x.whole_numbers-whole.result in
+    let whole = c.whole_numbers-whole.result in
     let every : whole ≡ a.n = le_antisymm room.few (omega arith) in
     spends_same refl (ap (λ (k : ℕ). join_below k f) every)
     (runs_whole a.budget a.image.now a.at 8 f (λ j. length_digits a.big 8 _) whole room.room (rw all at l.invariant.2))

@@ -4,12 +4,8 @@ use Rattle.tables.proofs.counts_ok.Goals as goal
 
 pub returns-then-first_outside-n : goal.returns-then-first_outside-n
 unfolding counts_rule
-returns-then-first_outside-n c =
-    let a = c in
-    rw (first_below _ (rw a.least_count.ensures at a.first_outside.ensures) c.if-first_outside-n.true)
+returns-then-first_outside-n c = rw (first_below _ (rw c.least_count.ensures at c.first_outside.ensures) c.if-first_outside-n.true)
 
 pub returns : goal.returns
 unfolding counts_rule
-returns c =
-    let a = c in
-    rw (first_past _ (rw a.least_count.ensures at a.first_outside.ensures) c.if-first_outside-n.false, c.greatest.ensures)
+returns c = rw (first_past _ (rw c.least_count.ensures at c.first_outside.ensures) c.if-first_outside-n.false, c.greatest.ensures)

@@ -21,17 +21,12 @@ returns-then-not-row_ok c =
     let width : let a = c.args in
     let t = c.loop-at in
     (0 < c.least-w.result) × (t.i + c.least-w.result ≤ a.n) × (t.at + c.least-w.result ≤ a.count) = let p = place in
-    let e = c.least-w.ensures in
     (omega arith, omega arith, omega arith) in
-    let tested : let l = c in
-    c.row_ok.result ≡ all_below l.least-w.result (λ t. Rule (l.loop-at.at + t)) = let l = c in
-    let a = c.args in
-    let t = l.loop-at in
-    let p = place in
-    row_placed a.n a.holds.now a.counts.now t.row t.i l.least-w.result (λ j. cell a.cells.now (t.at + j))
+    let tested : c.row_ok.result ≡ all_below c.least-w.result (λ t. Rule (c.loop-at.at + t)) = let a = c.args in
+    let t = c.loop-at in
+    row_placed a.n a.holds.now a.counts.now t.row t.i c.least-w.result (λ j. cell a.cells.now (t.at + j))
     width.1 (λ j. omega arith) c.row_ok.ensures in
-    let l = c in
-    run_fails (Rule) l.loop-at.at l.least-w.result width.2 tested c.if-not-row_ok.true-raw
+    run_fails (Rule) c.loop-at.at c.least-w.result width.2 tested c.if-not-row_ok.true-raw
 
 pub loop-at-preserved : goal.loop-at-preserved
 loop-at-preserved c =
@@ -41,24 +36,17 @@ loop-at-preserved c =
     let width : let a = c.args in
     let t = c.loop-at in
     (0 < c.least-w.result) × (t.i + c.least-w.result ≤ a.n) × (t.at + c.least-w.result ≤ a.count) = let p = place in
-    let e = c.least-w.ensures in
     (omega arith, omega arith, omega arith) in
     let Rule : ℕ → Bool = λ t. let a = c.args in
     rule_at a.n a.holds.now a.counts.now (a.k * a.n + a.first + t) (cell a.cells.now t) in
-    let tested : let l = c in
-    c.row_ok.result ≡ all_below l.least-w.result (λ t. Rule (l.loop-at.at + t)) = let l = c in
-    let a = c.args in
-    let t = l.loop-at in
-    let p = place in
-    row_placed a.n a.holds.now a.counts.now t.row t.i l.least-w.result (λ j. cell a.cells.now (t.at + j))
+    let tested : c.row_ok.result ≡ all_below c.least-w.result (λ t. Rule (c.loop-at.at + t)) = let a = c.args in
+    let t = c.loop-at in
+    row_placed a.n a.holds.now a.counts.now t.row t.i c.least-w.result (λ j. cell a.cells.now (t.at + j))
     width.1 (λ j. omega arith) c.row_ok.ensures in
-    let l = c in
-    let t = l.loop-at in
-    let w = width in
-    let p = place in
-    let e = l.least-w.ensures in (
+    let t = c.loop-at in
+    let w = width in (
       w.2,
       omega arith,
       λ more. (omega (arith, row_next c.args.n t.row), omega arith),
-      run_holds (Rule) t.at l.least-w.result t.invariant.3 tested c.if-not-row_ok.false-raw,
+      run_holds (Rule) t.at c.least-w.result t.invariant.3 tested c.if-not-row_ok.false-raw,
     )

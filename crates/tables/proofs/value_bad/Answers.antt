@@ -6,9 +6,8 @@ use Rattle.tables.proofs.value_bad.Goals as goal
 
 pub returns : goal.returns
 returns c =
-    let s = c in
     let b = c.bits64 in
     c.over.ensures
-    ∙ ap (λ (q : Bool). ltb s.args.bad (2 ^ 63) && q)
-    (masked s.args.holds s.requires.1 (ltb s.args.k s.args.count) s.args.value s.ranges.value.sfits
-    (b.ensures ∙ ap (bits_of 63) (to_z-of_z s.ranges.value)) b.type_inv c.unused_mask-unused.ensures)
+    ∙ ap (λ (q : Bool). ltb c.args.bad (2 ^ 63) && q)
+    (masked c.args.holds c.requires.1 (ltb c.args.k c.args.count) c.args.value c.ranges.value.sfits
+    (b.ensures ∙ ap (bits_of 63) (to_z-of_z c.ranges.value)) b.type_inv c.unused_mask-unused.ensures)

@@ -29,9 +29,8 @@ chunk_holds-holds-requires c =
     let is_task_there : (1 ≤ c.args.task) × (c.args.task ≤ c.args.s.head.n) × (0 < length c.args.bytes.now) = c.requires.le_task in
     let inside : c.args.task - 1 < max_tasks = omega (arith, is_task_there, head_tasks _ _ passed.head) in
     let sized : entry c.args.lists.now (max_tasks + (c.args.task - 1)) ≡ size_of c.args.lists.now (c.args.task - 1) = size_at_place c.args.lists.now (c.args.task - 1) inside in
-    let s = c in
-    let (first, last, _) = s.requires.le_task in
-    (head_block _ _ passed.head, rw sized (size_small passed s.args.task first last))
+    let (first, last, _) = c.requires.le_task in
+    (head_block _ _ passed.head, rw sized (size_small passed c.args.task first last))
 
 pub returns-then-holds-length : goal.returns-then-holds-length
 unfolding capacity_of holds
@@ -43,10 +42,8 @@ returns-then-holds-length c =
     let inside : c.args.task - 1 < max_tasks = omega (arith, is_task_there, head_tasks _ _ passed.head) in
     let sized : entry c.args.lists.now (max_tasks + (c.args.task - 1)) ≡ size_of c.args.lists.now (c.args.task - 1) = size_at_place c.args.lists.now (c.args.task - 1) inside in
     let held : c.chunk_holds-holds.result ≡ capacity_of lent asked = c.chunk_holds-holds.ensures ∙ ap (capacity c.args.s.head.blocksize) sized in
-    let h = c in
-    let s = c in
-    let passes = s.requires.table_value in
-    let (first, last, bytes) = s.requires.le_task in
+    let passes = c.requires.table_value in
+    let (first, last, bytes) = c.requires.le_task in
     c.nothing.ensures
     ∙ decide_long lent asked passes first last bytes (omega (arith, c.if-holds-length.true, held))
 
@@ -56,7 +53,7 @@ bounds-lists-i c =
     let lent : State = let a = c.args in state_of (file_in a.s.head) a.s a.lists.now a.image.now a.table.now in
     let passed : let st = lent in Passed st.session.head st.lists st.session.planned st.image st.table = session_passed lent c.requires.table_value in
     let inside : c.args.task - 1 < max_tasks = omega (arith, is_task_there, head_tasks _ _ passed.head) in
-    let s = c in omega (arith, inside, s.requires.lists_len)
+    omega (arith, inside, c.requires.lists_len)
 
 pub bounds-lists-i-2 : goal.bounds-lists-i-2
 bounds-lists-i-2 c =
@@ -64,7 +61,7 @@ bounds-lists-i-2 c =
     let lent : State = let a = c.args in state_of (file_in a.s.head) a.s a.lists.now a.image.now a.table.now in
     let passed : let st = lent in Passed st.session.head st.lists st.session.planned st.image st.table = session_passed lent c.requires.table_value in
     let inside : c.args.task - 1 < max_tasks = omega (arith, is_task_there, head_tasks _ _ passed.head) in
-    let s = c in omega (arith, inside, s.requires.lists_len)
+    omega (arith, inside, c.requires.lists_len)
 
 pub returns-then-begun-eq0 : goal.returns-then-begun-eq0
 unfolding begun capacity_of holds
@@ -77,12 +74,10 @@ returns-then-begun-eq0 c =
     let counted : entry c.args.lists.now (count_at (c.args.task - 1)) ≡ begun lent asked = count_at_place c.args.lists.now (c.args.task - 1) inside in
     let sized : entry c.args.lists.now (max_tasks + (c.args.task - 1)) ≡ size_of c.args.lists.now (c.args.task - 1) = size_at_place c.args.lists.now (c.args.task - 1) inside in
     let held : c.chunk_holds-holds.result ≡ capacity_of lent asked = c.chunk_holds-holds.ensures ∙ ap (capacity c.args.s.head.blocksize) sized in
-    let fits : let s = c in length asked.bytes ≤ capacity_of lent asked = omega (arith, c.if-holds-length.false, held) in
-    let b = c in
-    let s = c in
-    let passes = s.requires.table_value in
-    let (first, last, bytes) = s.requires.le_task in
-    c.next_chunk.ensures ∙ ap (next_chunk s.args.s.planned) counted
+    let fits : length asked.bytes ≤ capacity_of lent asked = omega (arith, c.if-holds-length.false, held) in
+    let passes = c.requires.table_value in
+    let (first, last, bytes) = c.requires.le_task in
+    c.next_chunk.ensures ∙ ap (next_chunk c.args.s.planned) counted
     ∙ decide_next lent asked passes first last bytes fits
     (rw (le-ltb 0 (begun lent asked) (omega (arith, c.if-begun-eq0.true, counted))))
 
@@ -95,13 +90,11 @@ overflow_mul-at c =
     let passed : let st = lent in Passed st.session.head st.lists st.session.planned st.image st.table = session_passed lent c.requires.table_value in
     let inside : c.args.task - 1 < max_tasks = omega (arith, is_task_there, head_tasks _ _ passed.head) in
     let counted : entry c.args.lists.now (count_at (c.args.task - 1)) ≡ begun lent asked = count_at_place c.args.lists.now (c.args.task - 1) inside in
-    let some : let s = c in 0 < begun lent asked = omega (arith, c.if-begun-eq0.false, counted) in
+    let some : 0 < begun lent asked = omega (arith, c.if-begun-eq0.false, counted) in
     let begun_few : begun lent asked ≤ c.args.s.planned = let (first, last, _) = c.requires.le_task in count_few passed c.args.task first last in
-    let listed : let s = c in
-    value_index s.args.s.head.n (entry s.args.lists.now (count_at (s.args.task - 1)) - 1) (s.args.task - 1) < length s.args.table.now = let s = c in
-    let (first, last, _) = s.requires.le_task in
+    let listed : value_index c.args.s.head.n (entry c.args.lists.now (count_at (c.args.task - 1)) - 1) (c.args.task - 1) < length c.args.table.now = let (first, last, _) = c.requires.le_task in
     let used = some in
-    rw counted (cell_listed passed s.args.task first last (begun lent asked - 1) (omega (arith, used, begun_few))) in
+    rw counted (cell_listed passed c.args.task first last (begun lent asked - 1) (omega (arith, used, begun_few))) in
     omega (arith, listed)
 
 pub overflow_add-at : goal.overflow_add-at
@@ -113,13 +106,11 @@ overflow_add-at c =
     let passed : let st = lent in Passed st.session.head st.lists st.session.planned st.image st.table = session_passed lent c.requires.table_value in
     let inside : c.args.task - 1 < max_tasks = omega (arith, is_task_there, head_tasks _ _ passed.head) in
     let counted : entry c.args.lists.now (count_at (c.args.task - 1)) ≡ begun lent asked = count_at_place c.args.lists.now (c.args.task - 1) inside in
-    let some : let s = c in 0 < begun lent asked = omega (arith, c.if-begun-eq0.false, counted) in
+    let some : 0 < begun lent asked = omega (arith, c.if-begun-eq0.false, counted) in
     let begun_few : begun lent asked ≤ c.args.s.planned = let (first, last, _) = c.requires.le_task in count_few passed c.args.task first last in
-    let listed : let s = c in
-    value_index s.args.s.head.n (entry s.args.lists.now (count_at (s.args.task - 1)) - 1) (s.args.task - 1) < length s.args.table.now = let s = c in
-    let (first, last, _) = s.requires.le_task in
+    let listed : value_index c.args.s.head.n (entry c.args.lists.now (count_at (c.args.task - 1)) - 1) (c.args.task - 1) < length c.args.table.now = let (first, last, _) = c.requires.le_task in
     let used = some in
-    rw counted (cell_listed passed s.args.task first last (begun lent asked - 1) (omega (arith, used, begun_few))) in
+    rw counted (cell_listed passed c.args.task first last (begun lent asked - 1) (omega (arith, used, begun_few))) in
     omega (arith, listed)
 
 pub written-last-requires : goal.written-last-requires
@@ -131,13 +122,11 @@ written-last-requires c =
     let passed : let st = lent in Passed st.session.head st.lists st.session.planned st.image st.table = session_passed lent c.requires.table_value in
     let inside : c.args.task - 1 < max_tasks = omega (arith, is_task_there, head_tasks _ _ passed.head) in
     let counted : entry c.args.lists.now (count_at (c.args.task - 1)) ≡ begun lent asked = count_at_place c.args.lists.now (c.args.task - 1) inside in
-    let some : let s = c in 0 < begun lent asked = omega (arith, c.if-begun-eq0.false, counted) in
+    let some : 0 < begun lent asked = omega (arith, c.if-begun-eq0.false, counted) in
     let begun_few : begun lent asked ≤ c.args.s.planned = let (first, last, _) = c.requires.le_task in count_few passed c.args.task first last in
-    let listed : let s = c in
-    value_index s.args.s.head.n (entry s.args.lists.now (count_at (s.args.task - 1)) - 1) (s.args.task - 1) < length s.args.table.now = let s = c in
-    let (first, last, _) = s.requires.le_task in
+    let listed : value_index c.args.s.head.n (entry c.args.lists.now (count_at (c.args.task - 1)) - 1) (c.args.task - 1) < length c.args.table.now = let (first, last, _) = c.requires.le_task in
     let used = some in
-    rw counted (cell_listed passed s.args.task first last (begun lent asked - 1) (omega (arith, used, begun_few))) in
+    rw counted (cell_listed passed c.args.task first last (begun lent asked - 1) (omega (arith, used, begun_few))) in
     listed
 
 pub overflow_sub-holds : goal.overflow_sub-holds
@@ -149,15 +138,12 @@ overflow_sub-holds c =
     let is_task_there : (1 ≤ c.args.task) × (c.args.task ≤ c.args.s.head.n) × (0 < length c.args.bytes.now) = c.requires.le_task in
     let inside : c.args.task - 1 < max_tasks = omega (arith, is_task_there, head_tasks _ _ passed.head) in
     let counted : entry c.args.lists.now (count_at (c.args.task - 1)) ≡ begun lent asked = count_at_place c.args.lists.now (c.args.task - 1) inside in
-    let some : let s = c in 0 < begun lent asked = omega (arith, c.if-begun-eq0.false, counted) in
-    let last_there : let s = c in c.written-last.result ≡ in_last lent asked = let s = c in
-    c.written-last.ensures
-    ∙ ap (λ (k : ℕ). natural (cell s.args.table.now (value_index s.args.s.head.n (k - 1) (s.args.task - 1)))) counted in
+    let some : 0 < begun lent asked = omega (arith, c.if-begun-eq0.false, counted) in
+    let last_there : c.written-last.result ≡ in_last lent asked = c.written-last.ensures
+    ∙ ap (λ (k : ℕ). natural (cell c.args.table.now (value_index c.args.s.head.n (k - 1) (c.args.task - 1)))) counted in
     let sized : entry c.args.lists.now (max_tasks + (c.args.task - 1)) ≡ size_of c.args.lists.now (c.args.task - 1) = size_at_place c.args.lists.now (c.args.task - 1) inside in
     let held : c.chunk_holds-holds.result ≡ capacity_of lent asked = c.chunk_holds-holds.ensures ∙ ap (capacity c.args.s.head.blocksize) sized in
-    let e = c in
-    let s = c in
-    let (first, last, _) = s.requires.le_task in
+    let (first, last, _) = c.requires.le_task in
     omega (arith, last_small lent asked passed first last some, last_there, held)
 
 pub returns-then-length-holds : goal.returns-then-length-holds
@@ -169,20 +155,15 @@ returns-then-length-holds c =
     let passed : let st = lent in Passed st.session.head st.lists st.session.planned st.image st.table = session_passed lent c.requires.table_value in
     let inside : c.args.task - 1 < max_tasks = omega (arith, is_task_there, head_tasks _ _ passed.head) in
     let counted : entry c.args.lists.now (count_at (c.args.task - 1)) ≡ begun lent asked = count_at_place c.args.lists.now (c.args.task - 1) inside in
-    let last_there : let s = c in c.written-last.result ≡ in_last lent asked = let s = c in
-    c.written-last.ensures
-    ∙ ap (λ (k : ℕ). natural (cell s.args.table.now (value_index s.args.s.head.n (k - 1) (s.args.task - 1)))) counted in
+    let last_there : c.written-last.result ≡ in_last lent asked = c.written-last.ensures
+    ∙ ap (λ (k : ℕ). natural (cell c.args.table.now (value_index c.args.s.head.n (k - 1) (c.args.task - 1)))) counted in
     let sized : entry c.args.lists.now (max_tasks + (c.args.task - 1)) ≡ size_of c.args.lists.now (c.args.task - 1) = size_at_place c.args.lists.now (c.args.task - 1) inside in
     let held : c.chunk_holds-holds.result ≡ capacity_of lent asked = c.chunk_holds-holds.ensures ∙ ap (capacity c.args.s.head.blocksize) sized in
-    let fits : let s = c in length asked.bytes ≤ capacity_of lent asked = omega (arith, c.if-holds-length.false, held) in
-    let some : let s = c in 0 < begun lent asked = omega (arith, c.if-begun-eq0.false, counted) in
+    let fits : length asked.bytes ≤ capacity_of lent asked = omega (arith, c.if-holds-length.false, held) in
+    let some : 0 < begun lent asked = omega (arith, c.if-begun-eq0.false, counted) in
     let begun_few : begun lent asked ≤ c.args.s.planned = let (first, last, _) = c.requires.le_task in count_few passed c.args.task first last in
-    let w = c in
-    let e = w in
-    let f = e in
-    let s = c in
-    let passes = s.requires.table_value in
-    let (first, last, bytes) = s.requires.le_task in
+    let passes = c.requires.table_value in
+    let (first, last, bytes) = c.requires.le_task in
     (λ i. record { refusal = 0; chunk = counted i; from = last_there i })
     ∙ decide_stays lent asked passes first last bytes fits some begun_few
     (omega (arith, c.if-length-holds.true, last_there, held))
@@ -197,7 +178,6 @@ next_chunk-requires-2 c =
     let inside : c.args.task - 1 < max_tasks = omega (arith, is_task_there, head_tasks _ _ passed.head) in
     let counted : entry c.args.lists.now (count_at (c.args.task - 1)) ≡ begun lent asked = count_at_place c.args.lists.now (c.args.task - 1) inside in
     let begun_few : begun lent asked ≤ c.args.s.planned = let (first, last, _) = c.requires.le_task in count_few passed c.args.task first last in
-    let s = c in
     rw counted begun_few
 
 pub returns : goal.returns
@@ -211,18 +191,13 @@ returns c =
     let counted : entry c.args.lists.now (count_at (c.args.task - 1)) ≡ begun lent asked = count_at_place c.args.lists.now (c.args.task - 1) inside in
     let sized : entry c.args.lists.now (max_tasks + (c.args.task - 1)) ≡ size_of c.args.lists.now (c.args.task - 1) = size_at_place c.args.lists.now (c.args.task - 1) inside in
     let held : c.chunk_holds-holds.result ≡ capacity_of lent asked = c.chunk_holds-holds.ensures ∙ ap (capacity c.args.s.head.blocksize) sized in
-    let fits : let s = c in length asked.bytes ≤ capacity_of lent asked = omega (arith, c.if-holds-length.false, held) in
-    let last_there : let s = c in c.written-last.result ≡ in_last lent asked = let s = c in
-    c.written-last.ensures
-    ∙ ap (λ (k : ℕ). natural (cell s.args.table.now (value_index s.args.s.head.n (k - 1) (s.args.task - 1)))) counted in
-    let w = c in
-    let e = w in
-    let f = e in
-    let s = c in
+    let fits : length asked.bytes ≤ capacity_of lent asked = omega (arith, c.if-holds-length.false, held) in
+    let last_there : c.written-last.result ≡ in_last lent asked = c.written-last.ensures
+    ∙ ap (λ (k : ℕ). natural (cell c.args.table.now (value_index c.args.s.head.n (k - 1) (c.args.task - 1)))) counted in
     let st = lent in
     let q = asked in
-    let passes = s.requires.table_value in
-    let (first, last, bytes) = s.requires.le_task in
-    c.next_chunk-2.ensures ∙ ap (next_chunk s.args.s.planned) counted
+    let passes = c.requires.table_value in
+    let (first, last, bytes) = c.requires.le_task in
+    c.next_chunk-2.ensures ∙ ap (next_chunk c.args.s.planned) counted
     ∙ decide_next st q passes first last bytes fits
     (rw (lt-leb (length q.bytes) (capacity_of st q - in_last st q) (omega (arith, c.if-length-holds.false, last_there, held))) (and-false (ltb 0 (begun st q))))

@@ -14,24 +14,19 @@ overflow_add-free c = let p = c.requires in omega (arith, c.chunk_start-start.en
 
 pub chunk_holds-requires : goal.chunk_holds-requires
 chunk_holds-requires c =
-    let i = c in
-    (i.requires.sound.block, (sound_size i.requires.sound (i.args.task - 1) (omega (arith, i.requires.first_task, i.requires.last_task))).1)
+    (c.requires.sound.block, (sound_size c.requires.sound (c.args.task - 1) (omega (arith, c.requires.first_task, c.requires.last_task))).1)
 
 pub overflow_add-end : goal.overflow_add-end
 unfolding start_of holds
-overflow_add-end c =
-    let s = c in
-    omega (arith, c.chunk_holds.ensures, s.chunk_start-start.ensures, c.requires.inside)
+overflow_add-end c = omega (arith, c.chunk_holds.ensures, c.chunk_start-start.ensures, c.requires.inside)
 
 pub slice_bounds-copy_within-start : goal.slice_bounds-copy_within-start
 unfolding start_of holds
-slice_bounds-copy_within-start c =
-    omega (arith, c.chunk_holds.ensures, c.chunk_start-start.ensures, c.requires.fits, c.requires.inside)
+slice_bounds-copy_within-start c = omega (arith, c.chunk_holds.ensures, c.chunk_start-start.ensures, c.requires.fits, c.requires.inside)
 
 pub slice_bounds-copy_within-end : goal.slice_bounds-copy_within-end
 unfolding start_of holds
-slice_bounds-copy_within-end c =
-    omega (arith, c.chunk_holds.ensures, c.chunk_start-start.ensures, c.requires.fits, c.requires.inside)
+slice_bounds-copy_within-end c = omega (arith, c.chunk_holds.ensures, c.chunk_start-start.ensures, c.requires.fits, c.requires.inside)
 
 pub slice_bounds-copy_within-count : goal.slice_bounds-copy_within-count
 unfolding holds
@@ -40,23 +35,18 @@ slice_bounds-copy_within-count c = omega (arith, c.chunk_holds.ensures, c.requir
 pub copy_within-requires : goal.copy_within-requires
 unfolding start_of holds
 copy_within-requires c =
-    let h = c in
-    let s = h in
-    simp (length-take, length-drop) (omega (arith, h.chunk_holds.ensures, s.chunk_start-start.ensures, c.requires.fits, c.requires.inside))
+    simp (length-take, length-drop) (omega (arith, c.chunk_holds.ensures, c.chunk_start-start.ensures, c.requires.fits, c.requires.inside))
 
 pub returns : goal.returns
 unfolding start_of holds
 returns c =
-    let copied = c in
-    let most = copied in
-    let s = most in
     let p = c.requires in
     let a = c.args in
-    let from : ℕ = s.chunk_start-start.result in
-    let end : ℕ = from + most.chunk_holds.result in
+    let from : ℕ = c.chunk_start-start.result in
+    let end : ℕ = from + c.chunk_holds.result in
     found_last
-    (spends_same (ap (λ (x : ℕ). x + a.from) s.chunk_start-start.ensures) refl
+    (spends_same (ap (λ (x : ℕ). x + a.from) c.chunk_start-start.ensures) refl
     (spends_part a.budget a.image.now (from + a.from) (end - (from + a.from)) a.bytes.now
-    (omega (arith, most.chunk_holds.ensures, p.fits))
-    (omega (arith, most.chunk_holds.ensures, s.chunk_start-start.ensures, p.fits, p.inside))
-    copied.copy_within.ensures))
+    (omega (arith, c.chunk_holds.ensures, p.fits))
+    (omega (arith, c.chunk_holds.ensures, c.chunk_start-start.ensures, p.fits, p.inside))
+    c.copy_within.ensures))

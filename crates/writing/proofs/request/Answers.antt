@@ -24,34 +24,28 @@ pub returns-then-chunk-eq0-clause-value : goal.returns-then-chunk-eq0-clause-val
 returns-then-chunk-eq0-clause-value c =
     let lent : State = let a = c.args in state_of (file_in a.s.head) a.s a.lists.now a.image.now a.table.now in
     let asked : Request = request_of c.args.task c.args.bytes.now in
-    let d = c in
-    let s = c in
-    let none = not_stored lent asked (sym (ap (λ (x : Decision). x.chunk) d.decide-d.ensures) ∙ c.if-chunk-eq0.true) in
-    ap (λ (x : Decision). x.refusal) d.decide-d.ensures ∙ sym none.0
+    let none = not_stored lent asked (sym (ap (λ (x : Decision). x.chunk) c.decide-d.ensures) ∙ c.if-chunk-eq0.true) in
+    ap (λ (x : Decision). x.refusal) c.decide-d.ensures ∙ sym none.0
 
 pub returns-then-chunk-eq0-clause-table_after : goal.returns-then-chunk-eq0-clause-table_after
 returns-then-chunk-eq0-clause-table_after c =
     let lent : State = let a = c.args in state_of (file_in a.s.head) a.s a.lists.now a.image.now a.table.now in
     let asked : Request = request_of c.args.task c.args.bytes.now in
-    let d = c in
-    let s = c in
-    let none = not_stored lent asked (sym (ap (λ (x : Decision). x.chunk) d.decide-d.ensures) ∙ c.if-chunk-eq0.true) in
-    sym (found_kept lent asked s.args.budget none.1)
+    let none = not_stored lent asked (sym (ap (λ (x : Decision). x.chunk) c.decide-d.ensures) ∙ c.if-chunk-eq0.true) in
+    sym (found_kept lent asked c.args.budget none.1)
 
 pub overflow_sub-i : goal.overflow_sub-i
 overflow_sub-i c =
     let lent : State = let a = c.args in state_of (file_in a.s.head) a.s a.lists.now a.image.now a.table.now in
     let asked : Request = request_of c.args.task c.args.bytes.now in
-    let known : let s = c in Puts lent asked c.decide-d.result = let s = c in
-    puts lent asked c.decide-d.result s.requires.lists_len c.decide-d.ensures c.if-chunk-eq0.false in
+    let known : Puts lent asked c.decide-d.result = puts lent asked c.decide-d.result c.requires.lists_len c.decide-d.ensures c.if-chunk-eq0.false in
     known.there.first_task
 
 pub overflow_mul-at : goal.overflow_mul-at
 overflow_mul-at c =
     let lent : State = let a = c.args in state_of (file_in a.s.head) a.s a.lists.now a.image.now a.table.now in
     let asked : Request = request_of c.args.task c.args.bytes.now in
-    let known : let s = c in Puts lent asked c.decide-d.result = let s = c in
-    puts lent asked c.decide-d.result s.requires.lists_len c.decide-d.ensures c.if-chunk-eq0.false in
+    let known : Puts lent asked c.decide-d.result = puts lent asked c.decide-d.result c.requires.lists_len c.decide-d.ensures c.if-chunk-eq0.false in
     let small : let a = c.args in
     ((c.decide-d.result.chunk - 1) * a.s.head.n ≤ max_blocks * max_tasks) × (1 ≤ a.task) × (a.task ≤ max_tasks) = let t = known.there in
     let few : c.decide-d.result.chunk - 1 ≤ max_blocks = omega (arith, t.few) in
@@ -62,8 +56,7 @@ pub overflow_add-at : goal.overflow_add-at
 overflow_add-at c =
     let lent : State = let a = c.args in state_of (file_in a.s.head) a.s a.lists.now a.image.now a.table.now in
     let asked : Request = request_of c.args.task c.args.bytes.now in
-    let known : let s = c in Puts lent asked c.decide-d.result = let s = c in
-    puts lent asked c.decide-d.result s.requires.lists_len c.decide-d.ensures c.if-chunk-eq0.false in
+    let known : Puts lent asked c.decide-d.result = puts lent asked c.decide-d.result c.requires.lists_len c.decide-d.ensures c.if-chunk-eq0.false in
     let small : let a = c.args in
     ((c.decide-d.result.chunk - 1) * a.s.head.n ≤ max_blocks * max_tasks) × (1 ≤ a.task) × (a.task ≤ max_tasks) = let t = known.there in
     let few : c.decide-d.result.chunk - 1 ≤ max_blocks = omega (arith, t.few) in
@@ -74,32 +67,28 @@ pub put-requires : goal.put-requires
 put-requires c =
     let lent : State = let a = c.args in state_of (file_in a.s.head) a.s a.lists.now a.image.now a.table.now in
     let asked : Request = request_of c.args.task c.args.bytes.now in
-    let known : let s = c in Puts lent asked c.decide-d.result = let s = c in
-    puts lent asked c.decide-d.result s.requires.lists_len c.decide-d.ensures c.if-chunk-eq0.false in
-    let l = c in known.there
+    let known : Puts lent asked c.decide-d.result = puts lent asked c.decide-d.result c.requires.lists_len c.decide-d.ensures c.if-chunk-eq0.false in
+    known.there
 
 pub overflow_add-d : goal.overflow_add-d
 overflow_add-d c =
     let lent : State = let a = c.args in state_of (file_in a.s.head) a.s a.lists.now a.image.now a.table.now in
     let asked : Request = request_of c.args.task c.args.bytes.now in
-    let known : let s = c in Puts lent asked c.decide-d.result = let s = c in
-    puts lent asked c.decide-d.result s.requires.lists_len c.decide-d.ensures c.if-chunk-eq0.false in
+    let known : Puts lent asked c.decide-d.result = puts lent asked c.decide-d.result c.requires.lists_len c.decide-d.ensures c.if-chunk-eq0.false in
     omega (arith, known.small)
 
 pub cell_of-requires : goal.cell_of-requires
 cell_of-requires c =
     let lent : State = let a = c.args in state_of (file_in a.s.head) a.s a.lists.now a.image.now a.table.now in
     let asked : Request = request_of c.args.task c.args.bytes.now in
-    let known : let s = c in Puts lent asked c.decide-d.result = let s = c in
-    puts lent asked c.decide-d.result s.requires.lists_len c.decide-d.ensures c.if-chunk-eq0.false in
+    let known : Puts lent asked c.decide-d.result = puts lent asked c.decide-d.result c.requires.lists_len c.decide-d.ensures c.if-chunk-eq0.false in
     omega (arith, known.small)
 
 pub offset_bounds-table-at : goal.offset_bounds-table-at
 offset_bounds-table-at c =
     let lent : State = let a = c.args in state_of (file_in a.s.head) a.s a.lists.now a.image.now a.table.now in
     let asked : Request = request_of c.args.task c.args.bytes.now in
-    let known : let s = c in Puts lent asked c.decide-d.result = let s = c in
-    puts lent asked c.decide-d.result s.requires.lists_len c.decide-d.ensures c.if-chunk-eq0.false in
+    let known : Puts lent asked c.decide-d.result = puts lent asked c.decide-d.result c.requires.lists_len c.decide-d.ensures c.if-chunk-eq0.false in
     let small : let a = c.args in
     ((c.decide-d.result.chunk - 1) * a.s.head.n ≤ max_blocks * max_tasks) × (1 ≤ a.task) × (a.task ≤ max_tasks) = let t = known.there in
     let few : c.decide-d.result.chunk - 1 ≤ max_blocks = omega (arith, t.few) in
@@ -110,16 +99,14 @@ pub bounds-table-at : goal.bounds-table-at
 bounds-table-at c =
     let lent : State = let a = c.args in state_of (file_in a.s.head) a.s a.lists.now a.image.now a.table.now in
     let asked : Request = request_of c.args.task c.args.bytes.now in
-    let known : let s = c in Puts lent asked c.decide-d.result = let s = c in
-    puts lent asked c.decide-d.result s.requires.lists_len c.decide-d.ensures c.if-chunk-eq0.false in
+    let known : Puts lent asked c.decide-d.result = puts lent asked c.decide-d.result c.requires.lists_len c.decide-d.ensures c.if-chunk-eq0.false in
     known.listed
 
 pub overflow_add-lists : goal.overflow_add-lists
 overflow_add-lists c =
     let lent : State = let a = c.args in state_of (file_in a.s.head) a.s a.lists.now a.image.now a.table.now in
     let asked : Request = request_of c.args.task c.args.bytes.now in
-    let known : let s = c in Puts lent asked c.decide-d.result = let s = c in
-    puts lent asked c.decide-d.result s.requires.lists_len c.decide-d.ensures c.if-chunk-eq0.false in
+    let known : Puts lent asked c.decide-d.result = puts lent asked c.decide-d.result c.requires.lists_len c.decide-d.ensures c.if-chunk-eq0.false in
     let small : let a = c.args in
     ((c.decide-d.result.chunk - 1) * a.s.head.n ≤ max_blocks * max_tasks) × (1 ≤ a.task) × (a.task ≤ max_tasks) = let t = known.there in
     let few : c.decide-d.result.chunk - 1 ≤ max_blocks = omega (arith, t.few) in
@@ -130,8 +117,7 @@ pub offset_bounds-lists-i : goal.offset_bounds-lists-i
 offset_bounds-lists-i c =
     let lent : State = let a = c.args in state_of (file_in a.s.head) a.s a.lists.now a.image.now a.table.now in
     let asked : Request = request_of c.args.task c.args.bytes.now in
-    let known : let s = c in Puts lent asked c.decide-d.result = let s = c in
-    puts lent asked c.decide-d.result s.requires.lists_len c.decide-d.ensures c.if-chunk-eq0.false in
+    let known : Puts lent asked c.decide-d.result = puts lent asked c.decide-d.result c.requires.lists_len c.decide-d.ensures c.if-chunk-eq0.false in
     let small : let a = c.args in
     ((c.decide-d.result.chunk - 1) * a.s.head.n ≤ max_blocks * max_tasks) × (1 ≤ a.task) × (a.task ≤ max_tasks) = let t = known.there in
     let few : c.decide-d.result.chunk - 1 ≤ max_blocks = omega (arith, t.few) in
@@ -142,41 +128,30 @@ pub bounds-lists-i : goal.bounds-lists-i
 bounds-lists-i c =
     let lent : State = let a = c.args in state_of (file_in a.s.head) a.s a.lists.now a.image.now a.table.now in
     let asked : Request = request_of c.args.task c.args.bytes.now in
-    let known : let s = c in Puts lent asked c.decide-d.result = let s = c in
-    puts lent asked c.decide-d.result s.requires.lists_len c.decide-d.ensures c.if-chunk-eq0.false in
+    let known : Puts lent asked c.decide-d.result = puts lent asked c.decide-d.result c.requires.lists_len c.decide-d.ensures c.if-chunk-eq0.false in
     let small : let a = c.args in
     ((c.decide-d.result.chunk - 1) * a.s.head.n ≤ max_blocks * max_tasks) × (1 ≤ a.task) × (a.task ≤ max_tasks) = let t = known.there in
     let few : c.decide-d.result.chunk - 1 ≤ max_blocks = omega (arith, t.few) in
     (mul-le-mul few t.sound.tasks, t.first_task, omega (arith, t.last_task, t.sound.tasks)) in
-    let e = c in
     omega (arith, small, c.requires.lists_len)
 
 pub returns-clause-value : goal.returns-clause-value
 returns-clause-value c =
     let lent : State = let a = c.args in state_of (file_in a.s.head) a.s a.lists.now a.image.now a.table.now in
     let asked : Request = request_of c.args.task c.args.bytes.now in
-    let known : let s = c in Puts lent asked c.decide-d.result = let s = c in
-    puts lent asked c.decide-d.result s.requires.lists_len c.decide-d.ensures c.if-chunk-eq0.false in
-    let p = c in
-    let e = c in
-    let a = c.args in
-    let chunk : ℕ = e.decide-d.result.chunk in
-    let written = to_z-of_z {w = w64} (sfits_of c.cell_of.type_inv) ∙ c.cell_of.ensures in
+    let known : Puts lent asked c.decide-d.result = puts lent asked c.decide-d.result c.requires.lists_len c.decide-d.ensures c.if-chunk-eq0.false in
     sym known.accepted
 
 pub returns-clause-table_after : goal.returns-clause-table_after
 returns-clause-table_after c =
     let lent : State = let a = c.args in state_of (file_in a.s.head) a.s a.lists.now a.image.now a.table.now in
     let asked : Request = request_of c.args.task c.args.bytes.now in
-    let known : let s = c in Puts lent asked c.decide-d.result = let s = c in
-    puts lent asked c.decide-d.result s.requires.lists_len c.decide-d.ensures c.if-chunk-eq0.false in
-    let p = c in
-    let e = c in
+    let known : Puts lent asked c.decide-d.result = puts lent asked c.decide-d.result c.requires.lists_len c.decide-d.ensures c.if-chunk-eq0.false in
     let a = c.args in
-    let chunk : ℕ = e.decide-d.result.chunk in
+    let chunk : ℕ = c.decide-d.result.chunk in
     let written = to_z-of_z {w = w64} (sfits_of c.cell_of.type_inv) ∙ c.cell_of.ensures in
     ap₂ (λ (image : List ℕ) (value : ℤ).
     state_of (file_in a.s.head) a.s (with_count a.lists.now (a.task - 1) chunk) image
     (set a.table.now (value_index a.s.head.n (chunk - 1) (a.task - 1)) value))
-    p.put.ensures written
+    c.put.ensures written
     ∙ sym (known.leaves a.budget)

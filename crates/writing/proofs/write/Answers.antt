@@ -9,9 +9,7 @@ use Rattle.writing.proofs.write.Goals as goal
 
 pub returns-clause-table_after : goal.returns-clause-table_after
 returns-clause-table_after c =
-    let w = c in
-    let z = w in
-    let a = z.args in
+    let a = c.args in
     let st = state_of Single a.s a.lists.now a.image.now a.table.now in
-    let done = w.write_within.ensures in
-    done.table_after ∙ write_whole st (request_of a.task a.bytes.now) _ (omega (arith, z.well_formed.1.1.1.1.1.0))
+    let done = c.write_within.ensures in
+    done.table_after ∙ write_whole st (request_of a.task a.bytes.now) _ (omega (arith, c.well_formed.1.1.1.1.1.0))

@@ -16,9 +16,7 @@ unfolding write_refusal
 returns-then-refusal-ne0-clause-value c =
     let lent : State = let a = c.args in state_of Single a.s a.lists.now a.image.now a.table.now in
     let asked : Request = request_of c.args.task c.args.bytes.now in
-    let r = c in
-    let s = c in
-    let e = r.session_refusal-refusal.ensures in
+    let e = c.session_refusal-refusal.ensures in
     let number : write_refusal lent asked ≡ first_failing (session_tests lent) =
     first_fails (session_tests lent) (request_tests lent asked) (omega (arith, e, c.if-refusal-ne0.true)) in
     e ∙ sym number
@@ -28,31 +26,26 @@ unfolding write_refusal
 returns-then-refusal-ne0-clause-table_after c =
     let lent : State = let a = c.args in state_of Single a.s a.lists.now a.image.now a.table.now in
     let asked : Request = request_of c.args.task c.args.bytes.now in
-    let r = c in
-    let s = c in
-    let e = r.session_refusal-refusal.ensures in
+    let e = c.session_refusal-refusal.ensures in
     let number : write_refusal lent asked ≡ first_failing (session_tests lent) =
     first_fails (session_tests lent) (request_tests lent asked) (omega (arith, e, c.if-refusal-ne0.true)) in
-    sym (refused_write_found lent asked s.args.budget (omega (arith, number, e, c.if-refusal-ne0.true)))
+    sym (refused_write_found lent asked c.args.budget (omega (arith, number, e, c.if-refusal-ne0.true)))
 
 pub request-requires-clause-table_value : goal.request-requires-clause-table_value
 request-requires-clause-table_value c =
     let lent : State = let a = c.args in state_of Single a.s a.lists.now a.image.now a.table.now in
     let passes : first_failing (session_tests lent) ≡ 0 = sym c.session_refusal-refusal.ensures ∙ c.if-refusal-ne0.false in
     let own : file_in c.args.s.head ≡ Single = session_file lent passes in
-    let e = c in
     rw own passes
 
 pub returns-clause-value : goal.returns-clause-value
 returns-clause-value c = (let lent : State = let a = c.args in state_of Single a.s a.lists.now a.image.now a.table.now in
     let passes : first_failing (session_tests lent) ≡ 0 = sym c.session_refusal-refusal.ensures ∙ c.if-refusal-ne0.false in
     let own : file_in c.args.s.head ≡ Single = session_file lent passes in
-    let r = c in
-    rw own at r.request.ensures).value
+    rw own at c.request.ensures).value
 
 pub returns-clause-table_after : goal.returns-clause-table_after
 returns-clause-table_after c = (let lent : State = let a = c.args in state_of Single a.s a.lists.now a.image.now a.table.now in
     let passes : first_failing (session_tests lent) ≡ 0 = sym c.session_refusal-refusal.ensures ∙ c.if-refusal-ne0.false in
     let own : file_in c.args.s.head ≡ Single = session_file lent passes in
-    let r = c in
-    rw own at r.request.ensures).table_after
+    rw own at c.request.ensures).table_after

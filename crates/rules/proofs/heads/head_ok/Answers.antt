@@ -26,7 +26,6 @@ unfolding head_sound
 returns-then-not-blocksize_ok c =
     let ordered : is_order c.args.h.order ≡ true = le-leb c.args.h.order 1 c.if-h-gt1.false in
     let known : format_rule (pos c.args.h.format) ≡ true = test_holds c.format_ok.ensures c.if-not-format_ok.false-raw in
-    let e = c in
     rw (ordered, known, test_fails c.blocksize_ok.ensures c.if-not-blocksize_ok.true-raw)
 
 pub returns-then-not-tasks_ok : goal.returns-then-not-tasks_ok
@@ -35,19 +34,14 @@ returns-then-not-tasks_ok c =
     let ordered : is_order c.args.h.order ≡ true = le-leb c.args.h.order 1 c.if-h-gt1.false in
     let known : format_rule (pos c.args.h.format) ≡ true = test_holds c.format_ok.ensures c.if-not-format_ok.false-raw in
     let powered : blocksize_rule (pos c.args.h.blocksize) ≡ true = test_holds c.blocksize_ok.ensures c.if-not-blocksize_ok.false-raw in
-    let e = c in
-    let k = e in
     rw (ordered, known, powered, test_fails c.tasks_ok.ensures c.if-not-tasks_ok.true-raw)
 
 pub slice_bounds-ranks_ok-end : goal.slice_bounds-ranks_ok-end
-slice_bounds-ranks_ok-end c =
-    let s = c in
-    sym (length_ranks s.args.lists.now s.requires)
+slice_bounds-ranks_ok-end c = sym (length_ranks c.args.lists.now c.requires)
 
 pub ranks_ok-requires : goal.ranks_ok-requires
 ranks_ok-requires c =
     let numbered : tasks_rule (pos c.args.h.n) ≡ true = test_holds c.tasks_ok.ensures c.if-not-tasks_ok.false-raw in
-    let e = c in
     omega (arith, (tasks_facts _ numbered).1, length_ranks c.args.lists.now c.requires)
 
 pub returns-then-not-ranks_ok : goal.returns-then-not-ranks_ok
@@ -57,15 +51,11 @@ returns-then-not-ranks_ok c =
     let known : format_rule (pos c.args.h.format) ≡ true = test_holds c.format_ok.ensures c.if-not-format_ok.false-raw in
     let powered : blocksize_rule (pos c.args.h.blocksize) ≡ true = test_holds c.blocksize_ok.ensures c.if-not-blocksize_ok.false-raw in
     let numbered : tasks_rule (pos c.args.h.n) ≡ true = test_holds c.tasks_ok.ensures c.if-not-tasks_ok.false-raw in
-    let t = c in
-    let e = t in
-    let k = e in
     rw (ordered, known, powered, numbered, test_fails c.ranks_ok.ensures c.if-not-ranks_ok.true-raw)
 
 pub sizes_ok-requires : goal.sizes_ok-requires
 sizes_ok-requires c =
     let numbered : tasks_rule (pos c.args.h.n) ≡ true = test_holds c.tasks_ok.ensures c.if-not-tasks_ok.false-raw in
-    let e = c in
     omega (arith, (tasks_facts _ numbered).1, length_sizes c.args.lists.now c.requires)
 
 pub returns : goal.returns
@@ -75,9 +65,5 @@ returns c =
     let known : format_rule (pos c.args.h.format) ≡ true = test_holds c.format_ok.ensures c.if-not-format_ok.false-raw in
     let powered : blocksize_rule (pos c.args.h.blocksize) ≡ true = test_holds c.blocksize_ok.ensures c.if-not-blocksize_ok.false-raw in
     let numbered : tasks_rule (pos c.args.h.n) ≡ true = test_holds c.tasks_ok.ensures c.if-not-tasks_ok.false-raw in
-    let f = c in
-    let t = f in
-    let e = t in
-    let k = e in
-    rw (ordered, known, powered, numbered, test_holds f.ranks_ok.ensures f.if-not-ranks_ok.false-raw)
+    rw (ordered, known, powered, numbered, test_holds c.ranks_ok.ensures c.if-not-ranks_ok.false-raw)
     c.sizes_ok.ensures

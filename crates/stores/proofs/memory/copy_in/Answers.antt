@@ -13,6 +13,5 @@ unfolding splice
 whole d s p i h k e = rw (le_antisymm h k, take-length) at e
 
 pub returns : goal.returns
-returns c = let z = c in
-    let l = c.loop-i in
-    whole z.args.part.now z.args.src.now l.part l.i l.invariant.0 c.loop-i-test.false l.invariant.2
+returns c = let l = c.loop-i in
+    whole c.args.part.now c.args.src.now l.part l.i l.invariant.0 c.loop-i-test.false l.invariant.2

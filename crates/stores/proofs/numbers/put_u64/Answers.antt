@@ -11,11 +11,10 @@ use Rattle.stores.proofs.numbers.put_u64.Goals as goal
 
 pub returns : goal.returns
 returns c =
-    let z = c in
-    let a = z.args in
+    let a = c.args in
     let n = length a.s.now - a.at in
     let vs = digits a.big 8 a.v in
     let copied = c.copy_in in
     let made = c.bytes8-bytes in
-    splice_part a.s.now a.at n vs copied.new.part (omega (arith, length_digits a.big 8 a.v, z.requires)) (omega (arith, z.requires))
+    splice_part a.s.now a.at n vs copied.new.part (omega (arith, length_digits a.big 8 a.v, c.requires)) (omega (arith, c.requires))
     (copied.ensures ∙ ap (splice (take n (drop a.at a.s.now)) 0) made.ensures)

@@ -9,11 +9,10 @@ use Rattle.stores.proofs.numbers.put_u64_within.Goals as goal
 
 pub returns : goal.returns
 returns c =
-    let z = c in
-    let a = z.args in
+    let a = c.args in
     let n = length a.s.now - a.at in
     let vs = digits a.big 8 a.v in
     let copied = c.copy_within in
     let made = c.bytes8-number in
-    spends_part a.budget a.s.now a.at n vs (omega (arith, length_digits a.big 8 a.v, z.requires)) (omega (arith, z.requires))
+    spends_part a.budget a.s.now a.at n vs (omega (arith, length_digits a.big 8 a.v, c.requires)) (omega (arith, c.requires))
     (rw made.ensures at copied.ensures)
