@@ -19,6 +19,7 @@ use Rattle.format.specs.Judge.{number_fault, end_fault, field_tests}
 use Rattle.format.proofs.Verdicts.{fails_first, passes_first, passes_last}
 use Rattle.format.proofs.Fields.{tasks_facts, unsigned_tests, fields_unsigned}
 use Rattle.front.proofs.judge_fields.Goals as goal
+use Rattle.front.proofs.judge_fields.Goals.{Start}
 
 -- a refusal at the place where a number is read
 abbrev at_place : ℕ → ℕ → Number4 → ℕ → ℕ → ℕ → Verdict
@@ -28,69 +29,51 @@ placed : (refusal kind : ℕ) (read : Number4) {at : ℕ} (least most : ℕ) →
     → at_place refusal kind read read.at least most ≡ at_place refusal kind read at least most
 placed refusal kind read least most e = λ i. at_place refusal kind read (e i) least most
 
-pub returns-then-not-format_ok : goal.returns-then-not-format_ok
-returns-then-not-format_ok c =
-    let Left : ℕ → Type 0 = λ k. let a = c.args in
+-- what is left to ask once the first k tests passed
+abbrev Left : Start → ℕ → Type 0
+Left s = λ k. let a = s.args in
     let xs = a.xs.now in
     verdict (field_tests xs a.file a.len)
     ≡ verdict
     (drop k
-    (unsigned_tests a.file a.len a.format.value a.blocksize.value a.n.value (number_at a.big 4 xs files_at) (number_at a.big 4 xs file_number_at))) in
-    let left : Left 0 = let p = c.requires in
-    fields_unsigned _ c.args.file c.args.len _ _ _ _ _ _ p.order_is (λ i. (p.format_is i).value) (λ i. (p.blocksize_is i).value) (λ i. (p.tasks_are i).value)
-    refl refl in
+    (unsigned_tests a.file a.len a.format.value a.blocksize.value a.n.value (number_at a.big 4 xs files_at) (number_at a.big 4 xs file_number_at)))
+
+left : (s : Start) → (Left s) 0
+left s = let p = s.requires in
+    fields_unsigned _ s.args.file s.args.len _ _ _ _ _ _ p.order_is (λ i. (p.format_is i).value) (λ i. (p.blocksize_is i).value) (λ i. (p.tasks_are i).value)
+    refl refl
+
+pub returns-then-not-format_ok : goal.returns-then-not-format_ok
+returns-then-not-format_ok c =
+    let s : Start = (goal.at.returns-then-not-format_ok c).Start in
     c.number4.ensures
     ∙ placed 4 _ c.args.format _ _ (λ i. (c.requires.format_is i).at)
-    ∙ sym (left ∙ fails_first _ _ (ap not (sym c.format_ok.ensures) ∙ c.if-not-format_ok.true-raw))
+    ∙ sym ((left s) ∙ fails_first _ _ (ap not (sym c.format_ok.ensures) ∙ c.if-not-format_ok.true-raw))
 
 pub returns-then-not-blocksize_ok : goal.returns-then-not-blocksize_ok
 returns-then-not-blocksize_ok c =
-    let Left : ℕ → Type 0 = λ k. let a = c.args in
-    let xs = a.xs.now in
-    verdict (field_tests xs a.file a.len)
-    ≡ verdict
-    (drop k
-    (unsigned_tests a.file a.len a.format.value a.blocksize.value a.n.value (number_at a.big 4 xs files_at) (number_at a.big 4 xs file_number_at))) in
-    let left : Left 0 = let p = c.requires in
-    fields_unsigned _ c.args.file c.args.len _ _ _ _ _ _ p.order_is (λ i. (p.format_is i).value) (λ i. (p.blocksize_is i).value) (λ i. (p.tasks_are i).value)
-    refl refl in
-    let left_1 : Left 1 = left ∙ passes_first _ _ (ap not (sym c.format_ok.ensures) ∙ c.if-not-format_ok.false-raw) in
+    let s : Start = (goal.at.returns-then-not-blocksize_ok c).Start in
+    let left_1 : (Left s) 1 = (left s) ∙ passes_first _ _ (ap not (sym c.format_ok.ensures) ∙ c.if-not-format_ok.false-raw) in
     c.number4-then-not-blocksize_ok.ensures
     ∙ placed 5 _ c.args.blocksize _ _ (λ i. (c.requires.blocksize_is i).at)
     ∙ sym (left_1 ∙ fails_first _ _ (ap not (sym c.blocksize_ok.ensures) ∙ c.if-not-blocksize_ok.true-raw))
 
 pub returns-then-not-tasks_ok : goal.returns-then-not-tasks_ok
 returns-then-not-tasks_ok c =
-    let Left : ℕ → Type 0 = λ k. let a = c.args in
-    let xs = a.xs.now in
-    verdict (field_tests xs a.file a.len)
-    ≡ verdict
-    (drop k
-    (unsigned_tests a.file a.len a.format.value a.blocksize.value a.n.value (number_at a.big 4 xs files_at) (number_at a.big 4 xs file_number_at))) in
-    let left : Left 0 = let p = c.requires in
-    fields_unsigned _ c.args.file c.args.len _ _ _ _ _ _ p.order_is (λ i. (p.format_is i).value) (λ i. (p.blocksize_is i).value) (λ i. (p.tasks_are i).value)
-    refl refl in
-    let left_1 : Left 1 = left ∙ passes_first _ _ (ap not (sym c.format_ok.ensures) ∙ c.if-not-format_ok.false-raw) in
-    let left_2 : Left 2 = left_1 ∙ passes_first _ _ (ap not (sym c.blocksize_ok.ensures) ∙ c.if-not-blocksize_ok.false-raw) in
+    let s : Start = (goal.at.returns-then-not-tasks_ok c).Start in
+    let left_1 : (Left s) 1 = (left s) ∙ passes_first _ _ (ap not (sym c.format_ok.ensures) ∙ c.if-not-format_ok.false-raw) in
+    let left_2 : (Left s) 2 = left_1 ∙ passes_first _ _ (ap not (sym c.blocksize_ok.ensures) ∙ c.if-not-blocksize_ok.false-raw) in
     c.number4-then-not-tasks_ok.ensures
     ∙ placed 6 _ c.args.n _ _ (λ i. (c.requires.tasks_are i).at)
     ∙ sym (left_2 ∙ fails_first _ _ (ap not (sym c.tasks_ok.ensures) ∙ c.if-not-tasks_ok.true-raw))
 
 pub returns-then-files-nfiles : goal.returns-then-files-nfiles
 returns-then-files-nfiles c =
+    let s : Start = (goal.at.returns-then-files-nfiles c).Start in
     let needed : c.files_of-nfiles.result ≡ files_of c.args.file = c.files_of-nfiles.ensures in
-    let Left : ℕ → Type 0 = λ k. let a = c.args in
-    let xs = a.xs.now in
-    verdict (field_tests xs a.file a.len)
-    ≡ verdict
-    (drop k
-    (unsigned_tests a.file a.len a.format.value a.blocksize.value a.n.value (number_at a.big 4 xs files_at) (number_at a.big 4 xs file_number_at))) in
-    let left : Left 0 = let p = c.requires in
-    fields_unsigned _ c.args.file c.args.len _ _ _ _ _ _ p.order_is (λ i. (p.format_is i).value) (λ i. (p.blocksize_is i).value) (λ i. (p.tasks_are i).value)
-    refl refl in
-    let left_1 : Left 1 = left ∙ passes_first _ _ (ap not (sym c.format_ok.ensures) ∙ c.if-not-format_ok.false-raw) in
-    let left_2 : Left 2 = left_1 ∙ passes_first _ _ (ap not (sym c.blocksize_ok.ensures) ∙ c.if-not-blocksize_ok.false-raw) in
-    let left_3 : Left 3 = left_2 ∙ passes_first _ _ (ap not (sym c.tasks_ok.ensures) ∙ c.if-not-tasks_ok.false-raw) in
+    let left_1 : (Left s) 1 = (left s) ∙ passes_first _ _ (ap not (sym c.format_ok.ensures) ∙ c.if-not-format_ok.false-raw) in
+    let left_2 : (Left s) 2 = left_1 ∙ passes_first _ _ (ap not (sym c.blocksize_ok.ensures) ∙ c.if-not-blocksize_ok.false-raw) in
+    let left_3 : (Left s) 3 = left_2 ∙ passes_first _ _ (ap not (sym c.tasks_ok.ensures) ∙ c.if-not-tasks_ok.false-raw) in
     let files : let a = c.args in c.get_u32-files.result.value ≡ number_at a.big 4 a.xs.now files_at = λ i. (c.get_u32-files.ensures i).value in
     c.number4-then-files-nfiles.ensures
     ∙ (λ i. at_place 7 7 (c.get_u32-files.ensures i) (c.get_u32-files.ensures i).at (needed i) (needed i))
@@ -98,22 +81,14 @@ returns-then-files-nfiles c =
 
 pub returns-then-number-filenumber : goal.returns-then-number-filenumber
 returns-then-number-filenumber c =
+    let s : Start = (goal.at.returns-then-number-filenumber c).Start in
     let needed_2 : c.number_of-filenumber.result ≡ file_of c.args.file = c.number_of-filenumber.ensures in
-    let Left : ℕ → Type 0 = λ k. let a = c.args in
-    let xs = a.xs.now in
-    verdict (field_tests xs a.file a.len)
-    ≡ verdict
-    (drop k
-    (unsigned_tests a.file a.len a.format.value a.blocksize.value a.n.value (number_at a.big 4 xs files_at) (number_at a.big 4 xs file_number_at))) in
-    let left : Left 0 = let p = c.requires in
-    fields_unsigned _ c.args.file c.args.len _ _ _ _ _ _ p.order_is (λ i. (p.format_is i).value) (λ i. (p.blocksize_is i).value) (λ i. (p.tasks_are i).value)
-    refl refl in
-    let left_1 : Left 1 = left ∙ passes_first _ _ (ap not (sym c.format_ok.ensures) ∙ c.if-not-format_ok.false-raw) in
-    let left_2 : Left 2 = left_1 ∙ passes_first _ _ (ap not (sym c.blocksize_ok.ensures) ∙ c.if-not-blocksize_ok.false-raw) in
-    let left_3 : Left 3 = left_2 ∙ passes_first _ _ (ap not (sym c.tasks_ok.ensures) ∙ c.if-not-tasks_ok.false-raw) in
+    let left_1 : (Left s) 1 = (left s) ∙ passes_first _ _ (ap not (sym c.format_ok.ensures) ∙ c.if-not-format_ok.false-raw) in
+    let left_2 : (Left s) 2 = left_1 ∙ passes_first _ _ (ap not (sym c.blocksize_ok.ensures) ∙ c.if-not-blocksize_ok.false-raw) in
+    let left_3 : (Left s) 3 = left_2 ∙ passes_first _ _ (ap not (sym c.tasks_ok.ensures) ∙ c.if-not-tasks_ok.false-raw) in
     let files : let a = c.args in c.get_u32-files.result.value ≡ number_at a.big 4 a.xs.now files_at = λ i. (c.get_u32-files.ensures i).value in
     let needed : c.files_of-nfiles.result ≡ files_of c.args.file = c.files_of-nfiles.ensures in
-    let left_4 : Left 4 = left_3 ∙ passes_first _ _ (ap not (eq-eqb _ _ (sym files ∙ c.if-files-nfiles.false ∙ needed))) in
+    let left_4 : (Left s) 4 = left_3 ∙ passes_first _ _ (ap not (eq-eqb _ _ (sym files ∙ c.if-files-nfiles.false ∙ needed))) in
     let number : let a = c.args in
     c.get_u32-number.result.value ≡ number_at a.big 4 a.xs.now file_number_at = λ i. (c.get_u32-number.ensures i).value in
     c.number4-then-number-filenumber.ensures
@@ -131,25 +106,17 @@ not_as_needed-requires c = (omega (arith, c.meta1_end-end.ensures), omega (arith
 
 pub returns-then-len-end : goal.returns-then-len-end
 returns-then-len-end c =
-    let Left : ℕ → Type 0 = λ k. let a = c.args in
-    let xs = a.xs.now in
-    verdict (field_tests xs a.file a.len)
-    ≡ verdict
-    (drop k
-    (unsigned_tests a.file a.len a.format.value a.blocksize.value a.n.value (number_at a.big 4 xs files_at) (number_at a.big 4 xs file_number_at))) in
-    let left : Left 0 = let p = c.requires in
-    fields_unsigned _ c.args.file c.args.len _ _ _ _ _ _ p.order_is (λ i. (p.format_is i).value) (λ i. (p.blocksize_is i).value) (λ i. (p.tasks_are i).value)
-    refl refl in
-    let left_1 : Left 1 = left ∙ passes_first _ _ (ap not (sym c.format_ok.ensures) ∙ c.if-not-format_ok.false-raw) in
-    let left_2 : Left 2 = left_1 ∙ passes_first _ _ (ap not (sym c.blocksize_ok.ensures) ∙ c.if-not-blocksize_ok.false-raw) in
-    let left_3 : Left 3 = left_2 ∙ passes_first _ _ (ap not (sym c.tasks_ok.ensures) ∙ c.if-not-tasks_ok.false-raw) in
+    let s : Start = (goal.at.returns-then-len-end c).Start in
+    let left_1 : (Left s) 1 = (left s) ∙ passes_first _ _ (ap not (sym c.format_ok.ensures) ∙ c.if-not-format_ok.false-raw) in
+    let left_2 : (Left s) 2 = left_1 ∙ passes_first _ _ (ap not (sym c.blocksize_ok.ensures) ∙ c.if-not-blocksize_ok.false-raw) in
+    let left_3 : (Left s) 3 = left_2 ∙ passes_first _ _ (ap not (sym c.tasks_ok.ensures) ∙ c.if-not-tasks_ok.false-raw) in
     let files : let a = c.args in c.get_u32-files.result.value ≡ number_at a.big 4 a.xs.now files_at = λ i. (c.get_u32-files.ensures i).value in
     let needed : c.files_of-nfiles.result ≡ files_of c.args.file = c.files_of-nfiles.ensures in
-    let left_4 : Left 4 = left_3 ∙ passes_first _ _ (ap not (eq-eqb _ _ (sym files ∙ c.if-files-nfiles.false ∙ needed))) in
+    let left_4 : (Left s) 4 = left_3 ∙ passes_first _ _ (ap not (eq-eqb _ _ (sym files ∙ c.if-files-nfiles.false ∙ needed))) in
     let number : let a = c.args in
     c.get_u32-number.result.value ≡ number_at a.big 4 a.xs.now file_number_at = λ i. (c.get_u32-number.ensures i).value in
     let needed_2 : c.number_of-filenumber.result ≡ file_of c.args.file = c.number_of-filenumber.ensures in
-    let left_5 : Left 5 = left_4 ∙ passes_first _ _ (ap not (eq-eqb _ _ (sym number ∙ c.if-number-filenumber.false ∙ needed_2))) in
+    let left_5 : (Left s) 5 = left_4 ∙ passes_first _ _ (ap not (eq-eqb _ _ (sym number ∙ c.if-number-filenumber.false ∙ needed_2))) in
     let len = c.args.len in
     c.not_as_needed.ensures
     ∙ (λ i. record { refusal = 3; fault = end_fault len (c.meta1_end-end.ensures i) })
@@ -157,23 +124,15 @@ returns-then-len-end c =
 
 pub returns : goal.returns
 returns c =
-    let Left : ℕ → Type 0 = λ k. let a = c.args in
-    let xs = a.xs.now in
-    verdict (field_tests xs a.file a.len)
-    ≡ verdict
-    (drop k
-    (unsigned_tests a.file a.len a.format.value a.blocksize.value a.n.value (number_at a.big 4 xs files_at) (number_at a.big 4 xs file_number_at))) in
-    let left : Left 0 = let p = c.requires in
-    fields_unsigned _ c.args.file c.args.len _ _ _ _ _ _ p.order_is (λ i. (p.format_is i).value) (λ i. (p.blocksize_is i).value) (λ i. (p.tasks_are i).value)
-    refl refl in
-    let left_1 : Left 1 = left ∙ passes_first _ _ (ap not (sym c.format_ok.ensures) ∙ c.if-not-format_ok.false-raw) in
-    let left_2 : Left 2 = left_1 ∙ passes_first _ _ (ap not (sym c.blocksize_ok.ensures) ∙ c.if-not-blocksize_ok.false-raw) in
-    let left_3 : Left 3 = left_2 ∙ passes_first _ _ (ap not (sym c.tasks_ok.ensures) ∙ c.if-not-tasks_ok.false-raw) in
+    let s : Start = (goal.at.returns c).Start in
+    let left_1 : (Left s) 1 = (left s) ∙ passes_first _ _ (ap not (sym c.format_ok.ensures) ∙ c.if-not-format_ok.false-raw) in
+    let left_2 : (Left s) 2 = left_1 ∙ passes_first _ _ (ap not (sym c.blocksize_ok.ensures) ∙ c.if-not-blocksize_ok.false-raw) in
+    let left_3 : (Left s) 3 = left_2 ∙ passes_first _ _ (ap not (sym c.tasks_ok.ensures) ∙ c.if-not-tasks_ok.false-raw) in
     let files : let a = c.args in c.get_u32-files.result.value ≡ number_at a.big 4 a.xs.now files_at = λ i. (c.get_u32-files.ensures i).value in
     let needed : c.files_of-nfiles.result ≡ files_of c.args.file = c.files_of-nfiles.ensures in
-    let left_4 : Left 4 = left_3 ∙ passes_first _ _ (ap not (eq-eqb _ _ (sym files ∙ c.if-files-nfiles.false ∙ needed))) in
+    let left_4 : (Left s) 4 = left_3 ∙ passes_first _ _ (ap not (eq-eqb _ _ (sym files ∙ c.if-files-nfiles.false ∙ needed))) in
     let number : let a = c.args in
     c.get_u32-number.result.value ≡ number_at a.big 4 a.xs.now file_number_at = λ i. (c.get_u32-number.ensures i).value in
     let needed_2 : c.number_of-filenumber.result ≡ file_of c.args.file = c.number_of-filenumber.ensures in
-    let left_5 : Left 5 = left_4 ∙ passes_first _ _ (ap not (eq-eqb _ _ (sym number ∙ c.if-number-filenumber.false ∙ needed_2))) in
+    let left_5 : (Left s) 5 = left_4 ∙ passes_first _ _ (ap not (eq-eqb _ _ (sym number ∙ c.if-number-filenumber.false ∙ needed_2))) in
     c.passes.ensures ∙ sym (left_5 ∙ passes_last _ (rw (sym c.meta1_end-end.ensures) (le-ltb _ _ c.if-len-end.false)))

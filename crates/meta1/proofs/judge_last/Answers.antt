@@ -19,24 +19,29 @@ use Rattle.format.specs.Record.{entry, is_big, meta2_at, end_at}
 use Rattle.format.proofs.Fields.{maxchunks_facts}
 use Rattle.meta1.proofs.Answers.{LastRead, not_closed, bad_maxchunks, start_wrong, past_end, accepted_last}
 use Rattle.meta1.proofs.judge_last.Goals as goal
+use Rattle.meta1.proofs.judge_last.Goals.{Start}
 
 -- what is given with a verdict that does not pass
 abbrev none : Verdict → Last
 none v = record { verdict = v; maxchunks = 0; start = 0 }
 
+-- META1 is there whole
+long : (s : Start) → meta1_end s.args.h.n ≤ length s.args.xs.now
+unfolding meta1_end
+long s = let few = s.requires.sound.tasks in
+    s.requires.head.covers (meta1_end s.args.h.n) s.requires.head.long (omega arith)
+
 pub get_u32-maxchunks-requires : goal.get_u32-maxchunks-requires
 unfolding meta1_end
 get_u32-maxchunks-requires c =
-    let long : meta1_end c.args.h.n ≤ length c.args.xs.now = let few = c.requires.sound.tasks in
-    c.requires.head.covers (meta1_end c.args.h.n) c.requires.head.long (omega arith) in
-    omega (arith, long, c.last_at-at.ensures)
+    let s : Start = (goal.at.get_u32-maxchunks-requires c).Start in
+    omega (arith, long s, c.last_at-at.ensures)
 
 pub get_u64-start-requires : goal.get_u64-start-requires
 unfolding meta1_end
 get_u64-start-requires c =
-    let long : meta1_end c.args.h.n ≤ length c.args.xs.now = let few = c.requires.sound.tasks in
-    c.requires.head.covers (meta1_end c.args.h.n) c.requires.head.long (omega arith) in
-    omega (arith, long, c.last_at-at.ensures)
+    let s : Start = (goal.at.get_u64-start-requires c).Start in
+    omega (arith, long s, c.last_at-at.ensures)
 
 pub returns-then-says-eq0 : goal.returns-then-says-eq0
 returns-then-says-eq0 c =

@@ -19,33 +19,37 @@ use Rattle.format.proofs.Storing.{found_kept}
 use Rattle.writing.proofs.Decisions.{not_stored}
 use Rattle.writing.proofs.Puts.{Puts, puts}
 use Rattle.writing.proofs.request.Goals as goal
+use Rattle.writing.proofs.request.Goals.{Start}
+
+-- the session and the request
+abbrev lent : Start → State
+lent s = let a = s.args in state_of (file_in a.s.head) a.s a.lists.now a.image.now a.table.now
+
+abbrev asked : Start → Request
+asked s = request_of s.args.task s.args.bytes.now
 
 pub returns-then-chunk-eq0-clause-value : goal.returns-then-chunk-eq0-clause-value
 returns-then-chunk-eq0-clause-value c =
-    let lent : State = let a = c.args in state_of (file_in a.s.head) a.s a.lists.now a.image.now a.table.now in
-    let asked : Request = request_of c.args.task c.args.bytes.now in
-    let none = not_stored lent asked (sym (ap (λ (x : Decision). x.chunk) c.decide-d.ensures) ∙ c.if-chunk-eq0.true) in
+    let s : Start = (goal.at.returns-then-chunk-eq0-clause-value c).Start in
+    let none = not_stored (lent s) (asked s) (sym (ap (λ (x : Decision). x.chunk) c.decide-d.ensures) ∙ c.if-chunk-eq0.true) in
     ap (λ (x : Decision). x.refusal) c.decide-d.ensures ∙ sym none.0
 
 pub returns-then-chunk-eq0-clause-table_after : goal.returns-then-chunk-eq0-clause-table_after
 returns-then-chunk-eq0-clause-table_after c =
-    let lent : State = let a = c.args in state_of (file_in a.s.head) a.s a.lists.now a.image.now a.table.now in
-    let asked : Request = request_of c.args.task c.args.bytes.now in
-    let none = not_stored lent asked (sym (ap (λ (x : Decision). x.chunk) c.decide-d.ensures) ∙ c.if-chunk-eq0.true) in
-    sym (found_kept lent asked c.args.budget none.1)
+    let s : Start = (goal.at.returns-then-chunk-eq0-clause-table_after c).Start in
+    let none = not_stored (lent s) (asked s) (sym (ap (λ (x : Decision). x.chunk) c.decide-d.ensures) ∙ c.if-chunk-eq0.true) in
+    sym (found_kept (lent s) (asked s) c.args.budget none.1)
 
 pub overflow_sub-i : goal.overflow_sub-i
 overflow_sub-i c =
-    let lent : State = let a = c.args in state_of (file_in a.s.head) a.s a.lists.now a.image.now a.table.now in
-    let asked : Request = request_of c.args.task c.args.bytes.now in
-    let known : Puts lent asked c.decide-d.result = puts lent asked c.decide-d.result c.requires.lists_len c.decide-d.ensures c.if-chunk-eq0.false in
+    let s : Start = (goal.at.overflow_sub-i c).Start in
+    let known : Puts (lent s) (asked s) c.decide-d.result = puts (lent s) (asked s) c.decide-d.result c.requires.lists_len c.decide-d.ensures c.if-chunk-eq0.false in
     known.there.first_task
 
 pub overflow_mul-at : goal.overflow_mul-at
 overflow_mul-at c =
-    let lent : State = let a = c.args in state_of (file_in a.s.head) a.s a.lists.now a.image.now a.table.now in
-    let asked : Request = request_of c.args.task c.args.bytes.now in
-    let known : Puts lent asked c.decide-d.result = puts lent asked c.decide-d.result c.requires.lists_len c.decide-d.ensures c.if-chunk-eq0.false in
+    let s : Start = (goal.at.overflow_mul-at c).Start in
+    let known : Puts (lent s) (asked s) c.decide-d.result = puts (lent s) (asked s) c.decide-d.result c.requires.lists_len c.decide-d.ensures c.if-chunk-eq0.false in
     let small : let a = c.args in
     ((c.decide-d.result.chunk - 1) * a.s.head.n ≤ max_blocks * max_tasks) × (1 ≤ a.task) × (a.task ≤ max_tasks) = let t = known.there in
     let few : c.decide-d.result.chunk - 1 ≤ max_blocks = omega (arith, t.few) in
@@ -54,9 +58,8 @@ overflow_mul-at c =
 
 pub overflow_add-at : goal.overflow_add-at
 overflow_add-at c =
-    let lent : State = let a = c.args in state_of (file_in a.s.head) a.s a.lists.now a.image.now a.table.now in
-    let asked : Request = request_of c.args.task c.args.bytes.now in
-    let known : Puts lent asked c.decide-d.result = puts lent asked c.decide-d.result c.requires.lists_len c.decide-d.ensures c.if-chunk-eq0.false in
+    let s : Start = (goal.at.overflow_add-at c).Start in
+    let known : Puts (lent s) (asked s) c.decide-d.result = puts (lent s) (asked s) c.decide-d.result c.requires.lists_len c.decide-d.ensures c.if-chunk-eq0.false in
     let small : let a = c.args in
     ((c.decide-d.result.chunk - 1) * a.s.head.n ≤ max_blocks * max_tasks) × (1 ≤ a.task) × (a.task ≤ max_tasks) = let t = known.there in
     let few : c.decide-d.result.chunk - 1 ≤ max_blocks = omega (arith, t.few) in
@@ -65,30 +68,26 @@ overflow_add-at c =
 
 pub put-requires : goal.put-requires
 put-requires c =
-    let lent : State = let a = c.args in state_of (file_in a.s.head) a.s a.lists.now a.image.now a.table.now in
-    let asked : Request = request_of c.args.task c.args.bytes.now in
-    let known : Puts lent asked c.decide-d.result = puts lent asked c.decide-d.result c.requires.lists_len c.decide-d.ensures c.if-chunk-eq0.false in
+    let s : Start = (goal.at.put-requires c).Start in
+    let known : Puts (lent s) (asked s) c.decide-d.result = puts (lent s) (asked s) c.decide-d.result c.requires.lists_len c.decide-d.ensures c.if-chunk-eq0.false in
     known.there
 
 pub overflow_add-d : goal.overflow_add-d
 overflow_add-d c =
-    let lent : State = let a = c.args in state_of (file_in a.s.head) a.s a.lists.now a.image.now a.table.now in
-    let asked : Request = request_of c.args.task c.args.bytes.now in
-    let known : Puts lent asked c.decide-d.result = puts lent asked c.decide-d.result c.requires.lists_len c.decide-d.ensures c.if-chunk-eq0.false in
+    let s : Start = (goal.at.overflow_add-d c).Start in
+    let known : Puts (lent s) (asked s) c.decide-d.result = puts (lent s) (asked s) c.decide-d.result c.requires.lists_len c.decide-d.ensures c.if-chunk-eq0.false in
     omega (arith, known.small)
 
 pub cell_of-requires : goal.cell_of-requires
 cell_of-requires c =
-    let lent : State = let a = c.args in state_of (file_in a.s.head) a.s a.lists.now a.image.now a.table.now in
-    let asked : Request = request_of c.args.task c.args.bytes.now in
-    let known : Puts lent asked c.decide-d.result = puts lent asked c.decide-d.result c.requires.lists_len c.decide-d.ensures c.if-chunk-eq0.false in
+    let s : Start = (goal.at.cell_of-requires c).Start in
+    let known : Puts (lent s) (asked s) c.decide-d.result = puts (lent s) (asked s) c.decide-d.result c.requires.lists_len c.decide-d.ensures c.if-chunk-eq0.false in
     omega (arith, known.small)
 
 pub offset_bounds-table-at : goal.offset_bounds-table-at
 offset_bounds-table-at c =
-    let lent : State = let a = c.args in state_of (file_in a.s.head) a.s a.lists.now a.image.now a.table.now in
-    let asked : Request = request_of c.args.task c.args.bytes.now in
-    let known : Puts lent asked c.decide-d.result = puts lent asked c.decide-d.result c.requires.lists_len c.decide-d.ensures c.if-chunk-eq0.false in
+    let s : Start = (goal.at.offset_bounds-table-at c).Start in
+    let known : Puts (lent s) (asked s) c.decide-d.result = puts (lent s) (asked s) c.decide-d.result c.requires.lists_len c.decide-d.ensures c.if-chunk-eq0.false in
     let small : let a = c.args in
     ((c.decide-d.result.chunk - 1) * a.s.head.n ≤ max_blocks * max_tasks) × (1 ≤ a.task) × (a.task ≤ max_tasks) = let t = known.there in
     let few : c.decide-d.result.chunk - 1 ≤ max_blocks = omega (arith, t.few) in
@@ -97,16 +96,14 @@ offset_bounds-table-at c =
 
 pub bounds-table-at : goal.bounds-table-at
 bounds-table-at c =
-    let lent : State = let a = c.args in state_of (file_in a.s.head) a.s a.lists.now a.image.now a.table.now in
-    let asked : Request = request_of c.args.task c.args.bytes.now in
-    let known : Puts lent asked c.decide-d.result = puts lent asked c.decide-d.result c.requires.lists_len c.decide-d.ensures c.if-chunk-eq0.false in
+    let s : Start = (goal.at.bounds-table-at c).Start in
+    let known : Puts (lent s) (asked s) c.decide-d.result = puts (lent s) (asked s) c.decide-d.result c.requires.lists_len c.decide-d.ensures c.if-chunk-eq0.false in
     known.listed
 
 pub overflow_add-lists : goal.overflow_add-lists
 overflow_add-lists c =
-    let lent : State = let a = c.args in state_of (file_in a.s.head) a.s a.lists.now a.image.now a.table.now in
-    let asked : Request = request_of c.args.task c.args.bytes.now in
-    let known : Puts lent asked c.decide-d.result = puts lent asked c.decide-d.result c.requires.lists_len c.decide-d.ensures c.if-chunk-eq0.false in
+    let s : Start = (goal.at.overflow_add-lists c).Start in
+    let known : Puts (lent s) (asked s) c.decide-d.result = puts (lent s) (asked s) c.decide-d.result c.requires.lists_len c.decide-d.ensures c.if-chunk-eq0.false in
     let small : let a = c.args in
     ((c.decide-d.result.chunk - 1) * a.s.head.n ≤ max_blocks * max_tasks) × (1 ≤ a.task) × (a.task ≤ max_tasks) = let t = known.there in
     let few : c.decide-d.result.chunk - 1 ≤ max_blocks = omega (arith, t.few) in
@@ -115,9 +112,8 @@ overflow_add-lists c =
 
 pub offset_bounds-lists-i : goal.offset_bounds-lists-i
 offset_bounds-lists-i c =
-    let lent : State = let a = c.args in state_of (file_in a.s.head) a.s a.lists.now a.image.now a.table.now in
-    let asked : Request = request_of c.args.task c.args.bytes.now in
-    let known : Puts lent asked c.decide-d.result = puts lent asked c.decide-d.result c.requires.lists_len c.decide-d.ensures c.if-chunk-eq0.false in
+    let s : Start = (goal.at.offset_bounds-lists-i c).Start in
+    let known : Puts (lent s) (asked s) c.decide-d.result = puts (lent s) (asked s) c.decide-d.result c.requires.lists_len c.decide-d.ensures c.if-chunk-eq0.false in
     let small : let a = c.args in
     ((c.decide-d.result.chunk - 1) * a.s.head.n ≤ max_blocks * max_tasks) × (1 ≤ a.task) × (a.task ≤ max_tasks) = let t = known.there in
     let few : c.decide-d.result.chunk - 1 ≤ max_blocks = omega (arith, t.few) in
@@ -126,9 +122,8 @@ offset_bounds-lists-i c =
 
 pub bounds-lists-i : goal.bounds-lists-i
 bounds-lists-i c =
-    let lent : State = let a = c.args in state_of (file_in a.s.head) a.s a.lists.now a.image.now a.table.now in
-    let asked : Request = request_of c.args.task c.args.bytes.now in
-    let known : Puts lent asked c.decide-d.result = puts lent asked c.decide-d.result c.requires.lists_len c.decide-d.ensures c.if-chunk-eq0.false in
+    let s : Start = (goal.at.bounds-lists-i c).Start in
+    let known : Puts (lent s) (asked s) c.decide-d.result = puts (lent s) (asked s) c.decide-d.result c.requires.lists_len c.decide-d.ensures c.if-chunk-eq0.false in
     let small : let a = c.args in
     ((c.decide-d.result.chunk - 1) * a.s.head.n ≤ max_blocks * max_tasks) × (1 ≤ a.task) × (a.task ≤ max_tasks) = let t = known.there in
     let few : c.decide-d.result.chunk - 1 ≤ max_blocks = omega (arith, t.few) in
@@ -137,16 +132,14 @@ bounds-lists-i c =
 
 pub returns-clause-value : goal.returns-clause-value
 returns-clause-value c =
-    let lent : State = let a = c.args in state_of (file_in a.s.head) a.s a.lists.now a.image.now a.table.now in
-    let asked : Request = request_of c.args.task c.args.bytes.now in
-    let known : Puts lent asked c.decide-d.result = puts lent asked c.decide-d.result c.requires.lists_len c.decide-d.ensures c.if-chunk-eq0.false in
+    let s : Start = (goal.at.returns-clause-value c).Start in
+    let known : Puts (lent s) (asked s) c.decide-d.result = puts (lent s) (asked s) c.decide-d.result c.requires.lists_len c.decide-d.ensures c.if-chunk-eq0.false in
     sym known.accepted
 
 pub returns-clause-table_after : goal.returns-clause-table_after
 returns-clause-table_after c =
-    let lent : State = let a = c.args in state_of (file_in a.s.head) a.s a.lists.now a.image.now a.table.now in
-    let asked : Request = request_of c.args.task c.args.bytes.now in
-    let known : Puts lent asked c.decide-d.result = puts lent asked c.decide-d.result c.requires.lists_len c.decide-d.ensures c.if-chunk-eq0.false in
+    let s : Start = (goal.at.returns-clause-table_after c).Start in
+    let known : Puts (lent s) (asked s) c.decide-d.result = puts (lent s) (asked s) c.decide-d.result c.requires.lists_len c.decide-d.ensures c.if-chunk-eq0.false in
     let a = c.args in
     let chunk : ℕ = c.decide-d.result.chunk in
     let written = to_z-of_z {w = w64} (sfits_of c.cell_of.type_inv) ∙ c.cell_of.ensures in
