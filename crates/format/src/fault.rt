@@ -1,4 +1,44 @@
 // What a load found broken (W-205): a field by its kind, where it stands, what it says, and from where to where it may be.
+ghost use Rattle.std.specs.Prelude.{◌≡◌};
+ghost use Rattle.format.specs.Refusals.{kind_of};
+
+use crate::refusal::Refusal;
+
+// A field that a load judges, by its kind; its number is what a fault says of it.
+#[derive(Clone, Copy, PartialEq, Eq, Debug)]
+pub enum Field {
+    Mark = 1,
+    Order = 2,
+    // The image's end, which comes too early.
+    Image = 3,
+    Format = 4,
+    Blocksize = 5,
+    Tasks = 6,
+    Files = 7,
+    FileNumber = 8,
+    Rank = 9,
+    Size = 10,
+    Maxchunks = 11,
+    Start = 12,
+    // The table that is lent, which has too few cells.
+    Table = 13,
+    Count = 14,
+    Value = 15,
+    // Of the mapping of a pair: mapping_size, and of an entry the file that it names, the task, and the rank that this task carries.
+    MappingSize = 16,
+    EntryFile = 17,
+    EntryTask = 18,
+    EntryRank = 19,
+}
+
+impl Field {
+    pub fn kind(self) -> u32
+        ensures { result ≡ kind_of self }
+    {
+        self as u32
+    }
+}
+
 pub const MARK: u32 = 1;
 
 pub const ORDER: u32 = 2;
@@ -60,5 +100,12 @@ pub struct Fault {
 #[derive(Clone, Copy)]
 pub struct Verdict {
     pub refusal: u32,
+    pub fault: Fault,
+}
+
+// What a load answers where a test fails: the refusal, and the field that is broken.
+#[derive(Clone, Copy)]
+pub struct Broken {
+    pub refusal: Refusal,
     pub fault: Fault,
 }

@@ -1,4 +1,44 @@
-// The refusal numbers of document 01, each by its name. 0 is no refusal.
+// The refusals of document 01's table, each by its name, with its number.
+ghost use Rattle.std.specs.Prelude.{◌≡◌};
+ghost use Rattle.format.specs.Refusals.{number_of};
+
+#[derive(Clone, Copy, PartialEq, Eq, Debug)]
+pub enum Refusal {
+    NoMark = 1,
+    NoOrder = 2,
+    ShortMeta1 = 3,
+    BadFormat = 4,
+    BadBlocksize = 5,
+    BadTasks = 6,
+    BadFiles = 7,
+    BadRank = 8,
+    BadSize = 9,
+    NotClosed = 10,
+    BadMaxchunks = 11,
+    BadMeta2Place = 12,
+    BadMeta2 = 13,
+    NoTask = 14,
+    TooLong = 15,
+    NoChunkLeft = 16,
+    BadRecord = 17,
+    TooShort = 18,
+    CellsDisagree = 19,
+    BadPlanned = 20,
+    LongPrefix = 21,
+    NoChunk = 22,
+    PastTotal = 23,
+    BadMapping = 25,
+}
+
+impl Refusal {
+    pub fn number(self) -> u32
+        ensures { result ≡ number_of self }
+    {
+        self as u32
+    }
+}
+
+// ---- the same as bare numbers, for code that has not gone over
 pub const NO_MARK: u32 = 1;
 
 pub const NO_ORDER: u32 = 2;
