@@ -85,7 +85,7 @@ pub const ENTRY_RANK: u32 = 19;
 // nothing, and so all three numbers are 0 there; an image's end and a table say their length, and both bounds are what is needed. Where nothing is
 // broken, all are 0.
 #[repr(C)]
-#[derive(Clone, Copy)]
+#[derive(Clone, Copy, Default)]
 pub struct Fault {
     pub place: u64,
     pub says: i64,

@@ -19,7 +19,7 @@ pub enum File {
 
 // `order` is 0 for little and 1 for big; `format` is fileformat_version; `files` is nfiles and `file` is filenumber.
 #[repr(C)]
-#[derive(Clone, Copy)]
+#[derive(Clone, Copy, Default)]
 pub struct Head {
     pub order: u32,
     pub version: i32,
