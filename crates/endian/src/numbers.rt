@@ -11,7 +11,7 @@ use std::convert::AsSlice;
 
 // A number of a fixed count of bytes, in either byte order.
 pub trait Number: Copy {
-    type Bytes: AsSlice<u8>;
+    type Bytes: AsSlice<u8> + Copy;
 
     // How many bytes one has.
     const WIDTH: usize;
