@@ -20,7 +20,7 @@ use Rattle.format.specs.declared.head.File.{File}
 use Rattle.front.specs.declared.Start.{Start}
 use Rattle.front.specs.declared.Fixed.{Fixed}
 use Rattle.endian.specs.declared.read.Number4.{Number4}
-use Rattle.format.specs.declared.fault.Verdict.{Verdict}
+use Rattle.format.specs.Refusals.{Verdict}
 use Rattle.format.specs.Refusals.{first_failing, verdict, passed}
 use Rattle.format.specs.Meta1.{fixed_length, format_at, blocksize_at, tasks_at, version_field, patch_field, files_field, file_number_field}
 use Rattle.format.specs.Record.{order_of, files_of, file_of, head_of, no_head}

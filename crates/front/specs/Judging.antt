@@ -8,7 +8,7 @@ use Rattle.format.specs.declared.head.File.{File}
 use Rattle.front.specs.declared.Start.{Start}
 use Rattle.front.specs.declared.Fixed.{Fixed}
 use Rattle.endian.specs.declared.read.Number4.{Number4}
-use Rattle.format.specs.declared.fault.Verdict.{Verdict}
+use Rattle.format.specs.Refusals.{Verdict}
 use Rattle.format.specs.Refusals.{verdict}
 use Rattle.format.specs.Meta1
 use Rattle.format.specs.Record.{no_head}

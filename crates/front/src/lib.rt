@@ -9,7 +9,7 @@ ghost use Rattle.format.specs.declared.head.File.{File};
 ghost use Rattle.front.specs.declared.Start.{Start};
 ghost use Rattle.front.specs.declared.Fixed.{Fixed};
 ghost use Rattle.endian.specs.declared.read.Number4.{Number4};
-ghost use Rattle.format.specs.declared.fault.Verdict.{Verdict};
+ghost use Rattle.format.specs.Refusals.{Verdict};
 ghost use Rattle.format.specs.Kinds;
 ghost use Rattle.format.specs.Meta1.{order_at};
 ghost use Rattle.format.specs.Refusals.{verdict};

@@ -22,7 +22,7 @@ use Rattle.format.specs.declared.head.Head.{Head}
 use Rattle.format.specs.declared.head.File.{File}
 use Rattle.front.specs.declared.Fixed.{Fixed}
 use Rattle.meta1.specs.declared.Last.{Last}
-use Rattle.format.specs.declared.fault.Verdict.{Verdict}
+use Rattle.format.specs.Refusals.{Verdict}
 use Rattle.format.specs.Kinds
 use Rattle.format.specs.Refusals.{Test, test_at, fault_of, no_fault, first_failing, verdict}
 use Rattle.format.specs.Meta2.{meta2_part, value_field, value_index, unused, value_rule, least_count, counts_rule}

@@ -9,7 +9,7 @@ ghost use Rattle.format.specs.declared.head.File.TheVariants.{Single};
 ghost use Rattle.format.specs.Meta2.{meta2_part};
 ghost use Rattle.format.specs.Record.{size_of, no_lists, meta2_at};
 ghost use Rattle.format.specs.Judge.{values_in};
-ghost use Rattle.format.specs.declared.fault.Verdict.{Verdict};
+ghost use Rattle.format.specs.Refusals.{Verdict};
 ghost use Rattle.format.specs.declared.loaded.LoadAnswer.{LoadAnswer};
 ghost use Rattle.format.specs.Loaded.{no_loaded};
 ghost use Rattle.format.specs.Load.{check_answer, load_answer, load_table};

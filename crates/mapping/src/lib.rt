@@ -8,7 +8,7 @@ ghost use Rattle.lists.specs.Stores.{Spends};
 ghost use Rattle.format.specs.Limits.{max_tasks};
 ghost use Rattle.format.specs.Record.{entry};
 ghost use Rattle.pairs.specs.Ranks.{none_lacking};
-ghost use Rattle.format.specs.declared.fault.Verdict.{Verdict};
+ghost use Rattle.format.specs.Refusals.{Verdict};
 ghost use Rattle.format.specs.Kinds;
 ghost use Rattle.format.specs.Refusals.{fault_of, verdict};
 ghost use Rattle.format.specs.Judge.{end_fault};

@@ -19,7 +19,7 @@ use Rattle.format.proofs.Chunks.{meta2_end_small}
 use Rattle.format.specs.declared.head.Head.{Head}
 use Rattle.meta1.specs.declared.Last.{Last}
 use Rattle.format.specs.declared.fault.Fault.{Fault}
-use Rattle.format.specs.declared.fault.Verdict.{Verdict}
+use Rattle.format.specs.Refusals.{Verdict}
 use Rattle.format.specs.Kinds
 use Rattle.format.specs.Refusals.{Test, test_at, fault_of, first_failing, verdict, passed}
 use Rattle.format.specs.Meta1.{fixed_length, rank_at, size_at, last_at, start_at, rank_field, size_field}

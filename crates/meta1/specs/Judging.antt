@@ -5,7 +5,7 @@ use Rattle.format.specs.Limits.{Sound}
 use Rattle.format.specs.declared.head.Head.{Head}
 use Rattle.meta1.specs.declared.Last.{Last}
 use Rattle.front.specs.Judging.{HeadRead}
-use Rattle.format.specs.declared.fault.Verdict.{Verdict}
+use Rattle.format.specs.Refusals.{Verdict}
 use Rattle.format.specs.Refusals.{first_failing, verdict}
 use Rattle.format.specs.Meta1
 use Rattle.format.specs.Record.{entry, lists_of, is_big}

@@ -9,7 +9,7 @@ ghost use Rattle.endian.specs.declared.read.Number8.{Number8};
 ghost use Rattle.lists.specs.Splice.{splice};
 ghost use Rattle.format.specs.declared.head.Head.{Head};
 ghost use Rattle.meta1.specs.declared.Last.{Last};
-ghost use Rattle.format.specs.declared.fault.Verdict.{Verdict};
+ghost use Rattle.format.specs.Refusals.{Verdict};
 ghost use Rattle.format.specs.Limits.{max_tasks};
 ghost use Rattle.format.specs.Kinds;
 ghost use Rattle.format.specs.Refusals.{fault_of};

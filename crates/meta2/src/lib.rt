@@ -9,7 +9,7 @@ ghost use Rattle.lists.specs.Splice.{splice};
 ghost use Rattle.format.specs.Limits.{max_blocks, max_tasks, Sound};
 ghost use Rattle.format.specs.Layout.{capacity, meta2_length};
 ghost use Rattle.format.specs.declared.head.Head.{Head};
-ghost use Rattle.format.specs.declared.fault.Verdict.{Verdict};
+ghost use Rattle.format.specs.Refusals.{Verdict};
 ghost use Rattle.format.specs.Kinds;
 ghost use Rattle.format.specs.Refusals.{fault_of, verdict};
 ghost use Rattle.format.specs.Meta2.{values_rule, count_field, value_field};

@@ -9,7 +9,7 @@ use Rattle.lists.proofs.Below.{test_holds}
 use Rattle.endian.specs.Number.{number_at}
 use Rattle.endian.specs.Signed.{signed}
 use Rattle.endian.specs.declared.read.Number4.{Number4}
-use Rattle.format.specs.declared.fault.Verdict.{Verdict}
+use Rattle.format.specs.Refusals.{Verdict}
 use Rattle.format.specs.Limits.{max_tasks}
 use Rattle.format.specs.Layout.{meta1_end}
 use Rattle.format.specs.Meta1.{files_at, file_number_at}

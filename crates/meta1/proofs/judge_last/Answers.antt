@@ -7,7 +7,7 @@ use lib.IntN.{pos}
 use lib.ListN.{length}
 use Rattle.endian.specs.Number.{number_at}
 use Rattle.endian.specs.Signed.{signed}
-use Rattle.format.specs.declared.fault.Verdict.{Verdict}
+use Rattle.format.specs.Refusals.{Verdict}
 use Rattle.format.specs.Kinds
 use Rattle.format.specs.Limits.{max_blocks, maxchunks_rule}
 use Rattle.format.specs.Meta1.{last_at, start_at}

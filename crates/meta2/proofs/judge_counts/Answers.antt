@@ -12,7 +12,7 @@ use Rattle.lists.proofs.Below.{all_at, first_cong, first_past, greatest_cong, gr
 use Rattle.endian.specs.Number.{number_at}
 use Rattle.endian.specs.Signed.{sign_bit, within}
 use Rattle.endian.proofs.Signed.{within_facts, within_signed}
-use Rattle.format.specs.declared.fault.Verdict.{Verdict}
+use Rattle.format.specs.Refusals.{Verdict}
 use Rattle.format.specs.declared.head.Head.{Head}
 use Rattle.format.specs.Kinds
 use Rattle.format.specs.Limits.{max_tasks}

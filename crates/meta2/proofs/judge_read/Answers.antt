@@ -9,7 +9,7 @@ use lib.IntN.{pos}
 use Rattle.lists.proofs.Below.{and_left}
 use Rattle.endian.specs.Number.{number_at}
 use Rattle.endian.specs.Signed.{sign_bit}
-use Rattle.format.specs.declared.fault.Verdict.{Verdict}
+use Rattle.format.specs.Refusals.{Verdict}
 use Rattle.format.specs.declared.head.Head.{Head}
 use Rattle.format.specs.Meta2.{count_field, value_field, least_count, counts_rule, values_rule}
 use Rattle.format.specs.Record.{size_of, count_of, is_big, holds}

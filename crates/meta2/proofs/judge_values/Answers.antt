@@ -7,7 +7,7 @@ use borrow.Author.Rules.{rules}
 use Rattle.lists.specs.Below.{all_below, first_not}
 use Rattle.lists.proofs.Below.{all_none, all_more, all_end, first_at, all_fails}
 use Rattle.format.specs.Record.{size_of}
-use Rattle.format.specs.declared.fault.Verdict.{Verdict}
+use Rattle.format.specs.Refusals.{Verdict}
 use Rattle.format.specs.Refusals.{verdict, passed}
 use Rattle.format.specs.Judge.{value_tests}
 use Rattle.format.proofs.Accepting.{value_kept, broken_in, row_verdict, values_verdict}
