@@ -6,7 +6,9 @@ use Prim.Native.Nat.{ℕ, zero, suc, ◌<◌}
 use native.Mathlib.Omega.{arith}
 use lib.Dec.{eqb}
 use borrow.Author.Tests.{eqb-true, eq-eqb, ne_eqb}
-use Rattle.format.specs.Refusals.{Test, first_failing}
+use Rattle.format.specs.declared.refusal.Refusal.{Refusal}
+use Rattle.format.specs.declared.refusal.Refusal.TheVariants.{NoMark, NoOrder, ShortMeta1, BadFormat, BadBlocksize, BadTasks, BadFiles, BadRank, BadSize, NotClosed, BadMaxchunks, BadMeta2Place, BadMeta2, NoTask, TooLong, NoChunkLeft, BadRecord, TooShort, CellsDisagree, BadPlanned, LongPrefix, NoChunk, PastTotal, BadMapping}
+use Rattle.format.specs.Refusals.{Test, first_failing, number_of}
 
 -- something holds of each test
 abbrev pub Each : (Test → Type 0) → List Test → Type 0
@@ -110,3 +112,30 @@ module _ {ℓ} {A : Type ℓ} (r : ℕ) (a b : A) where
 pub either_is : {A B : Type 0} (t : Bool) (a b : A) (f : A → B) {v : B} → f a ≡ v → f b ≡ v → f (cond t a b) ≡ v
 either_is true a b f accepted refused = accepted
 either_is false a b f accepted refused = refused
+
+-- no refusal has the number 0
+pub some_number : (refusal : Refusal) → 0 < number_of refusal
+some_number NoMark = omega arith
+some_number NoOrder = omega arith
+some_number ShortMeta1 = omega arith
+some_number BadFormat = omega arith
+some_number BadBlocksize = omega arith
+some_number BadTasks = omega arith
+some_number BadFiles = omega arith
+some_number BadRank = omega arith
+some_number BadSize = omega arith
+some_number NotClosed = omega arith
+some_number BadMaxchunks = omega arith
+some_number BadMeta2Place = omega arith
+some_number BadMeta2 = omega arith
+some_number NoTask = omega arith
+some_number TooLong = omega arith
+some_number NoChunkLeft = omega arith
+some_number BadRecord = omega arith
+some_number TooShort = omega arith
+some_number CellsDisagree = omega arith
+some_number BadPlanned = omega arith
+some_number LongPrefix = omega arith
+some_number NoChunk = omega arith
+some_number PastTotal = omega arith
+some_number BadMapping = omega arith

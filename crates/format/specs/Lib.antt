@@ -2,6 +2,7 @@ pub mod Limits
 pub mod Layout
 pub mod Kinds
 pub mod Refusals
+pub mod Answers
 pub mod Meta2
 pub mod Record
 pub mod Meta1

@@ -1,6 +1,6 @@
 // The refusals of document 01's table, each by its name, with its number.
 ghost use Rattle.std.specs.Prelude.{◌≡◌};
-ghost use Rattle.format.specs.Refusals.{number_of};
+ghost use Rattle.format.specs.Refusals.{number_of, answered};
 
 #[derive(Clone, Copy, PartialEq, Eq, Debug)]
 pub enum Refusal {
@@ -35,6 +35,16 @@ impl Refusal {
         ensures { result ≡ number_of self }
     {
         self as u32
+    }
+}
+
+// The number that a call answers with: 0 where it does its work.
+pub fn answered(answer: Result<(), Refusal>) -> u32
+    ensures { result ≡ answered answer }
+{
+    match answer {
+        Ok(()) => 0,
+        Err(refusal) => refusal.number(),
     }
 }
 

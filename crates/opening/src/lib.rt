@@ -5,12 +5,12 @@ ghost use Rattle.std.specs.Prelude.{◌≡◌, ◌+◌, ◌-◌, ◌*◌, ◌≤
 ghost use Rattle.lists.specs.Below.{list_below};
 ghost use Rattle.lists.specs.Splice.{splice};
 ghost use Rattle.format.specs.Limits.{max_tasks, max_blocks};
-ghost use Rattle.format.specs.Refusals.{first_failing};
+ghost use Rattle.format.specs.Refusals.{first_failing, number_of, answered};
 ghost use Rattle.format.specs.Record.{entry, count_at, lists_of, with_counts, no_lists};
 ghost use Rattle.format.specs.declared.head.File.{File};
 ghost use Rattle.format.specs.declared.head.File.TheVariants.{Single};
 ghost use Rattle.format.specs.declared.session.Plan.{Plan};
-ghost use Rattle.format.specs.declared.session.Needed.{Needed};
+ghost use Rattle.format.specs.Answers.{needed_of};
 ghost use Rattle.format.specs.declared.session.Opened.{Opened};
 ghost use Rattle.format.specs.Session.{no_session};
 ghost use Rattle.format.specs.Meta2.{unused};
@@ -18,13 +18,14 @@ ghost use Rattle.format.specs.Open.{opening_of, shape_tests, blank_cells, number
 
 use format::head::{File, Head, LISTS};
 use format::limit::MAX_TASKS;
-use format::session::{Needed, Opened, Plan, Session};
-use format::{field, head, limit, refusal};
+use format::refusal::Refusal;
+use format::session::{Opened, Plan, Room, Session};
+use format::{field, head, limit};
 use rules::{heads, limits};
 
 // A refusal beside a record of zeros marked closed.
-fn no_session(refusal: u32) -> Opened
-    ensures { result ≡ record { session = no_session; lists = no_lists; refusal = refusal } }
+fn no_session(refusal: Refusal) -> Opened
+    ensures { result ≡ record { session = no_session; lists = no_lists; refusal = number_of refusal } }
 {
     let head = heads::no_head();
     let lists = [0; LISTS];
@@ -35,123 +36,108 @@ fn no_session(refusal: u32) -> Opened
             closed: 1,
         },
         lists,
-        refusal,
+        refusal: refusal.number(),
     }
 }
 
 // Tests 2, 4, 5, 6 and 21.
-fn shape_refusal(
+fn test_shape(
     order: u32,
     format: u32,
     blocksize: u32,
     ranks: usize,
     sizes: usize,
     prefix: usize,
-) -> u32
-    ensures { result ≡ first_failing (shape_tests order format blocksize ranks sizes prefix) }
+) -> Result<(), Refusal>
+    ensures { answered result ≡ first_failing (shape_tests order format blocksize ranks sizes prefix) }
 {
     if 1 < order {
-        return refusal::NO_ORDER;
+        return Err(Refusal::NoOrder);
     }
     if !limits::format_ok(format) {
-        return refusal::BAD_FORMAT;
+        return Err(Refusal::BadFormat);
     }
     if !limits::blocksize_ok(blocksize) {
-        return refusal::BAD_BLOCKSIZE;
+        return Err(Refusal::BadBlocksize);
     }
     if ranks < 1 {
-        return refusal::BAD_TASKS;
+        return Err(Refusal::BadTasks);
     }
     if MAX_TASKS < ranks {
-        return refusal::BAD_TASKS;
+        return Err(Refusal::BadTasks);
     }
     if ranks != sizes {
-        return refusal::BAD_TASKS;
+        return Err(Refusal::BadTasks);
     }
     if field::PREFIX < prefix {
-        return refusal::LONG_PREFIX;
+        return Err(Refusal::LongPrefix);
     }
-    0
+    Ok(())
 }
 
 // Tests 8, 9 and 20.
-fn number_refusal(ranks: &[u64], sizes: &[u64], planned: u32) -> u32
+fn test_numbers(ranks: &[u64], sizes: &[u64], planned: u32) -> Result<(), Refusal>
     requires { length ranks.now ≤ length sizes.now }
-    ensures { result ≡ first_failing (number_tests ranks.now sizes.now planned) }
+    ensures { answered result ≡ first_failing (number_tests ranks.now sizes.now planned) }
 {
     let n = ranks.len();
     if !limits::ranks_ok(ranks, n) {
-        return refusal::BAD_RANK;
+        return Err(Refusal::BadRank);
     }
     if !limits::sizes_ok(sizes, n) {
-        return refusal::BAD_SIZE;
+        return Err(Refusal::BadSize);
     }
     if !limits::planned_ok(planned) {
-        return refusal::BAD_PLANNED;
+        return Err(Refusal::BadPlanned);
     }
-    0
-}
-
-fn no_need(refusal: u32) -> Needed
-    ensures { result ≡ record { refusal = refusal; image = 0; cells = 0 } }
-{
-    Needed {
-        refusal,
-        image: 0,
-        cells: 0,
-    }
+    Ok(())
 }
 
 // The lengths that an opening requires of image and table, or the refusal of its plan: tests 2, 4, 5, 6, 21, 8, 9 and 20, in this order.
-pub fn needs(plan: Plan, ranks: &[u64], sizes: &[u64], prefix: &[u8]) -> Needed
-    ensures { result ≡ needs_answer (opening_of Single plan ranks.now sizes.now prefix.now) }
+pub fn needs(
+    plan: Plan,
+    ranks: &[u64],
+    sizes: &[u64],
+    prefix: &[u8],
+) -> Result<Room, Refusal>
+    ensures { needed_of result ≡ needs_answer (opening_of Single plan ranks.now sizes.now prefix.now) }
 {
-    let shape = shape_refusal(
+    test_shape(
         plan.order,
         plan.format,
         plan.blocksize,
         ranks.len(),
         sizes.len(),
         prefix.len(),
-    );
-    if shape != 0 {
-        return no_need(shape);
-    }
-    let number = number_refusal(ranks, sizes, plan.planned);
-    if number != 0 {
-        return no_need(number);
-    }
+    )?;
+    test_numbers(ranks, sizes, plan.planned)?;
     let n = ranks.len() as u32;
     let image = layout::meta2_end(sizes, n, plan.blocksize, plan.planned);
-    Needed {
-        refusal: 0,
+    Ok(Room {
         image,
         cells: n as u64 * plan.planned as u64,
-    }
+    })
 }
 
 // The plan's tests, then 18.
-fn open_refusal(
+fn test_opening(
     plan: Plan,
     ranks: &[u64],
     sizes: &[u64],
     prefix: &[u8],
     image: u64,
     cells: u64,
-) -> u32
-    ensures { result ≡ open_refusal (opening_of Single plan ranks.now sizes.now prefix.now) image cells }
+) -> Result<(), Refusal>
+    ensures { answered result ≡ open_refusal (opening_of Single plan ranks.now sizes.now prefix.now) image cells }
 {
-    let needed = needs(plan, ranks, sizes, prefix);
-    if needed.refusal != 0 {
-        return needed.refusal;
+    let room = needs(plan, ranks, sizes, prefix)?;
+    if image < room.image {
+        return Err(Refusal::TooShort);
     }
-    if image < needed.image {
-        return refusal::TOO_SHORT;
+    if cells < room.cells {
+        return Err(Refusal::TooShort);
     }
-    if cells < needed.cells {
-        return refusal::TOO_SHORT;
-    }
-    0
+    Ok(())
 }
 
 // These numbers into the lists, from `at` on.
@@ -280,15 +266,14 @@ pub fn open_within(
     ensures image_after { image.new ≡ open_found (opening_of Single plan ranks.now sizes.now prefix.now) image.old table.old budget }
     ensures table_after { table.new ≡ open_table (opening_of Single plan ranks.now sizes.now prefix.now) image.old table.old }
 {
-    let refusal = open_refusal(
+    if let Err(refusal) = test_opening(
         plan,
         ranks,
         sizes,
         prefix,
         image.len() as u64,
         table.len() as u64,
-    );
-    if refusal != 0 {
+    ) {
         return no_session(refusal);
     }
     begin(

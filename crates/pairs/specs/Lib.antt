@@ -1,3 +1,4 @@
+pub mod Answers
 pub mod Ranks
 pub mod Mapping
 pub mod Open

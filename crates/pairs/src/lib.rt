@@ -3,16 +3,29 @@
 // file.
 #![tactic(auto)]
 
+ghost use Rattle.std.specs.Prelude.{◌≡◌};
+ghost use Rattle.pairs.specs.Answers.{pair_needed_of};
+
 use format::fault::Fault;
 use format::head::LISTS;
 use format::limit::MAX_TASKS;
 use format::loaded::Loaded;
+use format::refusal::Refusal;
 use format::session::Session;
 
 // The most tasks of a pair.
 pub const PAIR_TASKS: usize = 2 * MAX_TASKS;
 
-// What an opening of a pair needs.
+// What an opening of a pair needs: of each file, the bytes of its image and the cells of its table.
+#[derive(Clone, Copy)]
+pub struct PairRoom {
+    pub image0: u64,
+    pub cells0: u64,
+    pub image1: u64,
+    pub cells1: u64,
+}
+
+// The same for C, with the number of a refusal.
 #[repr(C)]
 #[derive(Clone, Copy)]
 pub struct PairNeeded {
@@ -23,7 +36,7 @@ pub struct PairNeeded {
     pub cells1: u64,
 }
 
-// What it answers, with both records.
+// What an opening answers, with both records.
 #[repr(C)]
 #[derive(Drop)]
 pub struct PairOpened {
@@ -66,4 +79,27 @@ pub struct PairPart {
     pub file: u32,
     pub start: u64,
     pub length: u64,
+}
+
+impl From<Result<PairRoom, Refusal>> for PairNeeded {
+    ghost from_gives = { λ answer needed. needed ≡ pair_needed_of answer };
+
+    fn from(answer: Result<PairRoom, Refusal>) -> PairNeeded {
+        match answer {
+            Ok(room) => PairNeeded {
+                refusal: 0,
+                image0: room.image0,
+                cells0: room.cells0,
+                image1: room.image1,
+                cells1: room.cells1,
+            },
+            Err(refusal) => PairNeeded {
+                refusal: refusal.number(),
+                image0: 0,
+                cells0: 0,
+                image1: 0,
+                cells1: 0,
+            },
+        }
+    }
 }

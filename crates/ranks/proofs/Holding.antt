@@ -149,6 +149,10 @@ pub lacking_held : (n m : ℕ) (rank rank' : ℕ → ℕ)
 unfolding none_lacking
 lacking_held n m rank rank' = all_cong _ _ (n + m) (λ r l. comes_held n m rank rank' r)
 
+pub length_holders : (n m : ℕ) (rank rank' : ℕ → ℕ) → length (holders n m rank rank') ≡ 2 * max_tasks
+unfolding holders
+length_holders n m rank rank' = length_list _ (2 * max_tasks)
+
 pub holder_at : (n m : ℕ) (rank rank' : ℕ → ℕ) (r : ℕ) → n + m ≤ 2 * max_tasks → r < n + m
     → entry (holders n m rank rank') r ≡ holder n m rank rank' r
 unfolding holders

@@ -1,2 +1,3 @@
+pub mod Carrying
 pub mod Holding
 pub mod Finding

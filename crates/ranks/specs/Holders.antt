@@ -1,5 +1,5 @@
 -- The tasks of a pair in one row, as code goes through them: those of file 0, then those of file 1, counted from 1; 0 stands for none.
-use Rattle.std.specs.Prelude.{cond, List, ◌≡◌, ℕ, ◌+◌, ◌*◌, ◌≤◌, ◌<◌, ltb, eqb, length, get_or}
+use Rattle.std.specs.Prelude.{cond, Option, Some, None, List, ◌≡◌, ℕ, ◌+◌, ◌*◌, ◌≤◌, ◌<◌, ltb, eqb, length, get_or}
 use Rattle.lists.specs.Below.{list_below}
 use Rattle.format.specs.Limits.{max_tasks}
 use Rattle.pairs.specs.Ranks.{mapping_size, carrier}
@@ -22,3 +22,7 @@ module _ (n m : ℕ) (rank rank' : ℕ → ℕ) where
   -- that of each rank below mapping_size, and no task for others
   unfoldable pub holders : List ℕ
   holders = list_below (2 * max_tasks) (λ r. cond (ltb r (mapping_size n m)) (holder r) 0)
+
+-- a task of the row, where it is one
+abbrev pub some_task : ℕ → Option ℕ
+some_task task = cond (eqb task 0) None (Some task)

@@ -3,67 +3,62 @@ use mathlib.Core.Path.{◌≡◌, sym, ap, ◌∙◌}
 use Prim.Native.Nat.{ℕ, ◌*◌, ◌<◌}
 use native.Mathlib.Nat.{mul-le-mul}
 use native.Mathlib.Omega.{arith}
+use Rattle.std.proofs.lemmas.Result.{err_from_is_err_and}
 use lib.ListN.{length}
 use Rattle.format.specs.declared.head.File.TheVariants.{Single}
-use Rattle.format.specs.Refusals.{first_failing}
+use Rattle.format.specs.declared.refusal.Refusal.{Refusal}
+use Rattle.format.specs.Refusals.{number_of, first_failing}
+use Rattle.format.proofs.Refusals.{some_number}
 use Rattle.format.specs.Open.{Opening, opening_of, plan_tests, needs_answer}
 use Rattle.format.proofs.Opening.{PlanHolds, plan_holds, plan_sound, plan_shape, plan_number, shape_listed, needs_refused, needs_lengths}
 use Rattle.opening.proofs.needs.Goals as goal
 
--- a number of the plan's tests, beside two zeros
-refused : (o : Opening) → (r : ℕ) → r ≡ first_failing (plan_tests o) → 0 < r → record { refusal = r; image = 0; cells = 0 } ≡ needs_answer o
-refused o r e some =
-    ap (λ (n : ℕ). record { refusal = n; image = 0; cells = 0 }) e ∙ sym (needs_refused o (omega (arith, e, some)))
+-- a refusal of the plan's tests, beside two zeros
+refused : (o : Opening) → (r : Refusal) → number_of r ≡ first_failing (plan_tests o) → record { refusal = number_of r; image = 0; cells = 0 } ≡ needs_answer o
+refused o r e =
+    ap (λ (n : ℕ). record { refusal = n; image = 0; cells = 0 }) e ∙ sym (needs_refused o (omega (arith, e, some_number r)))
 
-pub returns-then-shape-ne0 : goal.returns-then-shape-ne0
-returns-then-shape-ne0 c =
+pub returns-in_err-test_shape : goal.returns-in_err-test_shape
+returns-in_err-test_shape c =
     let given : Opening = let a = c.args in opening_of Single a.plan a.ranks.now a.sizes.now a.prefix.now in
-    let e = c.shape_refusal-shape.ensures in
-    c.no_need.ensures
-    ∙ refused given _ (e ∙ sym (plan_shape given (omega (arith, e, c.if-shape-ne0.true)))) (omega (arith, c.if-shape-ne0.true))
+    let e = c.in_err-test_shape.ensures in
+    let p = err_from_is_err_and c.from_residual.result c.from_residual.ensures.1 in
+    rw (p.1, p.2) (refused given _ (e ∙ sym (plan_shape given (omega (arith, e, some_number c.in_err-test_shape.field-0.0)))))
 
-pub number_refusal-number-requires : goal.number_refusal-number-requires
-number_refusal-number-requires c = omega (arith, shape_listed _ _ _ _ _ _ (sym c.shape_refusal-shape.ensures ∙ c.if-shape-ne0.false))
+pub test_numbers-requires : goal.test_numbers-requires
+test_numbers-requires c = omega (arith, shape_listed _ _ _ _ _ _ (sym c.in_ok-test_shape.ensures))
 
-pub returns-then-number-ne0 : goal.returns-then-number-ne0
-returns-then-number-ne0 c =
+pub returns-in_err-test_numbers : goal.returns-in_err-test_numbers
+returns-in_err-test_numbers c =
     let given : Opening = let a = c.args in opening_of Single a.plan a.ranks.now a.sizes.now a.prefix.now in
-    let shaped : first_failing (plan_tests given) ≡ c.number_refusal-number.result =
-    plan_number given (sym c.shape_refusal-shape.ensures ∙ c.if-shape-ne0.false) ∙ sym c.number_refusal-number.ensures in
-    c.no_need-then-number-ne0.ensures ∙ refused given _ (sym shaped) (omega (arith, c.if-number-ne0.true))
+    let e = c.in_err-test_numbers.ensures in
+    let p = err_from_is_err_and c.from_residual-in_err-test_numbers.result c.from_residual-in_err-test_numbers.ensures.1 in
+    rw (p.1, p.2) (refused given _ (e ∙ sym (plan_number given (sym c.in_ok-test_shape.ensures))))
 
 pub overflow_cast-n : goal.overflow_cast-n
-overflow_cast-n c =
+overflow_cast-n c = 
     let given : Opening = let a = c.args in opening_of Single a.plan a.ranks.now a.sizes.now a.prefix.now in
-    let shaped : first_failing (plan_tests given) ≡ c.number_refusal-number.result =
-    plan_number given (sym c.shape_refusal-shape.ensures ∙ c.if-shape-ne0.false) ∙ sym c.number_refusal-number.ensures in
-    let passes : first_failing (plan_tests given) ≡ 0 = shaped ∙ c.if-number-ne0.false in
+    let passes : first_failing (plan_tests given) ≡ 0 = plan_number given (sym c.in_ok-test_shape.ensures) ∙ sym c.in_ok-test_numbers.ensures in
     let known : PlanHolds given = plan_holds _ passes in
     omega (arith, known.few_tasks)
 
 pub meta2_end-image-requires : goal.meta2_end-image-requires
 meta2_end-image-requires c =
     let given : Opening = let a = c.args in opening_of Single a.plan a.ranks.now a.sizes.now a.prefix.now in
-    let shaped : first_failing (plan_tests given) ≡ c.number_refusal-number.result =
-    plan_number given (sym c.shape_refusal-shape.ensures ∙ c.if-shape-ne0.false) ∙ sym c.number_refusal-number.ensures in
-    let passes : first_failing (plan_tests given) ≡ 0 = shaped ∙ c.if-number-ne0.false in
+    let passes : first_failing (plan_tests given) ≡ 0 = plan_number given (sym c.in_ok-test_shape.ensures) ∙ sym c.in_ok-test_numbers.ensures in
     let known : PlanHolds given = plan_holds _ passes in
     (plan_sound _ known, known.few)
 
 pub overflow_mul-result : goal.overflow_mul-result
 overflow_mul-result c =
     let given : Opening = let a = c.args in opening_of Single a.plan a.ranks.now a.sizes.now a.prefix.now in
-    let shaped : first_failing (plan_tests given) ≡ c.number_refusal-number.result =
-    plan_number given (sym c.shape_refusal-shape.ensures ∙ c.if-shape-ne0.false) ∙ sym c.number_refusal-number.ensures in
-    let passes : first_failing (plan_tests given) ≡ 0 = shaped ∙ c.if-number-ne0.false in
+    let passes : first_failing (plan_tests given) ≡ 0 = plan_number given (sym c.in_ok-test_shape.ensures) ∙ sym c.in_ok-test_numbers.ensures in
     let known : PlanHolds given = plan_holds _ passes in
     omega (arith, mul-le-mul known.few_tasks known.few)
 
 pub returns : goal.returns
 returns c =
     let given : Opening = let a = c.args in opening_of Single a.plan a.ranks.now a.sizes.now a.prefix.now in
-    let shaped : first_failing (plan_tests given) ≡ c.number_refusal-number.result =
-    plan_number given (sym c.shape_refusal-shape.ensures ∙ c.if-shape-ne0.false) ∙ sym c.number_refusal-number.ensures in
-    let passes : first_failing (plan_tests given) ≡ 0 = shaped ∙ c.if-number-ne0.false in
+    let passes : first_failing (plan_tests given) ≡ 0 = plan_number given (sym c.in_ok-test_shape.ensures) ∙ sym c.in_ok-test_numbers.ensures in
     ap (λ (end : ℕ). record { refusal = 0; image = end; cells = length given.ranks * given.plan.planned }) c.meta2_end-image.ensures
     ∙ sym (needs_lengths given passes)

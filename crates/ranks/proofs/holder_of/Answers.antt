@@ -1,32 +1,13 @@
 -- File 0's task, or else file 1's, or else none.
-use mathlib.Core.Path.{refl}
-use native.Mathlib.Omega.{arith}
-use Prim.Native.Nat.{ℕ, ◌+◌}
-use borrow.Author.Tests.{lt-ltb, le-ltb, ne_eqb}
-use Rattle.format.specs.Record.{entry}
-use Rattle.pairs.specs.Ranks.{carrier}
-use Rattle.ranks.specs.Holders.{holder}
+use mathlib.Core.Path.{sym, ◌∙◌}
+use Rattle.ranks.proofs.Carrying.{held_first, held_second, held_not}
 use Rattle.ranks.proofs.holder_of.Goals as goal
 
-pub returns-then-i-n : goal.returns-then-i-n
-unfolding holder
-returns-then-i-n c =
-    let a = c.args in
-    let i : ℕ = carrier a.n (entry a.first.now) a.rank in
-    rw (lt-ltb i a.n (omega (arith, c.if-i-n.true)), ne_eqb (0 + i + 1) 0 (λ z. omega arith)) (omega arith)
+pub returns-in-Some : goal.returns-in-Some
+returns-in-Some c = held_first _ _ _ (sym c.carrier_of.ensures ∙ c.in-Some.is)
 
-pub returns-then-j-m : goal.returns-then-j-m
-unfolding holder
-returns-then-j-m c =
-    let a = c.args in
-    let i : ℕ = carrier a.n (entry a.first.now) a.rank in
-    let j : ℕ = carrier a.m (entry a.second.now) a.rank in
-    rw (le-ltb i a.n (omega (arith, c.if-i-n.false)), lt-ltb j a.m (omega (arith, c.if-j-m.true))) (omega arith)
+pub returns-in_err-j : goal.returns-in_err-j
+returns-in_err-j c = c.from_residual.ensures ∙ held_not _ _ _ (sym c.carrier_of.ensures ∙ c.in_default.is) (sym c.carrier_of-2.ensures ∙ c.in_err-j.was)
 
 pub returns : goal.returns
-unfolding holder
-returns c =
-    let a = c.args in
-    let i : ℕ = carrier a.n (entry a.first.now) a.rank in
-    let j : ℕ = carrier a.m (entry a.second.now) a.rank in
-    rw (le-ltb i a.n (omega (arith, c.if-i-n.false)), le-ltb j a.m (omega (arith, c.if-j-m.false))) refl
+returns c = held_second _ _ _ (sym c.carrier_of.ensures ∙ c.in_default.is) (sym c.carrier_of-2.ensures ∙ c.in_ok-j.was)

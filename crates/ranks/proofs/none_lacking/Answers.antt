@@ -1,36 +1,41 @@
--- The loop's invariant: every rank passed has a task. The measure is the ranks left.
-use mathlib.Core.Path.{◌≡◌, sym, ap, ◌∙◌}
-use mathlib.Core.Bool.{not}
-use Prim.Native.Nat.{ℕ, ◌+◌, ◌<◌}
+-- Every rank has a task in the row of both files.
+use mathlib.Core.Path.{◌≡◌, refl, sym, ap, ◌∙◌}
+use mathlib.Core.Bool.{Bool, true, false, not, ◌||◌, ◌&&◌}
+use mathlib.Core.List.{List}
+use Prim.Native.Nat.{ℕ, zero, suc, ◌+◌, ◌*◌, ◌≤◌}
+use native.Mathlib.Numerals.{add-one}
 use native.Mathlib.Omega.{arith}
-use borrow.Author.Rules.{rules}
-use borrow.Author.Tests.{eq-eqb, ne_eqb}
-use Rattle.lists.proofs.Below.{all_none, all_more, all_end, all_fails}
+use lib.Dec.{eqb}
+use lib.ListN.{length, take}
+use Rattle.std.specs.List.{list_any}
+use Rattle.std.proofs.lemmas.List.Folds.{list_any_more}
+use Rattle.lists.specs.Below.{all_below}
+use Rattle.lists.proofs.Below.{all_cong}
+use Rattle.format.specs.Limits.{max_tasks}
 use Rattle.format.specs.Record.{entry}
-use Rattle.ranks.specs.Holders.{holder}
-use Rattle.ranks.proofs.Holding.{holder_at, lacking_held}
+use Rattle.ranks.proofs.Holding.{length_holders, holder_at, lacking_held}
 use Rattle.ranks.proofs.none_lacking.Goals as goal
 
-pub loop-r-init : goal.loop-r-init
-loop-r-init c = (omega arith, all_none _)
-
-pub returns-then-found-r-eq0 : goal.returns-then-found-r-eq0
-returns-then-found-r-eq0 c =
-    let held : (r : ℕ)
-    → let a = c.args in
-    r < a.n + a.m → entry c.all_holders-found.result r ≡ holder a.n a.m (entry a.first.now) (entry a.second.now) r = λ r l. ap (λ xs. entry xs r) c.all_holders-found.ensures ∙ holder_at _ _ _ _ r (omega (arith, c.requires)) l in
-    let l = c.loop-r in
-    let below = c.loop-r-test.true in
-    all_fails _ l.r below (ap not (eq-eqb _ 0 (sym (held l.r below) ∙ c.if-found-r-eq0.true))) ∙ sym (lacking_held _ _ _ _)
-
-pub loop-r-preserved : goal.loop-r-preserved
-loop-r-preserved c =
-    let held : (r : ℕ)
-    → let a = c.args in
-    r < a.n + a.m → entry c.all_holders-found.result r ≡ holder a.n a.m (entry a.first.now) (entry a.second.now) r = λ r l. ap (λ xs. entry xs r) c.all_holders-found.ensures ∙ holder_at _ _ _ _ r (omega (arith, c.requires)) l in
-    let l = c.loop-r in
-    let below = c.loop-r-test.true in
-    (search rules, all_more _ l.r l.invariant.1 (ap not (ne_eqb _ 0 (λ e. c.if-found-r-eq0.false (held l.r below ∙ e)))))
+not_any : (p : ℕ → Bool) (xs : List ℕ) (i : ℕ) → i ≤ length xs → not (list_any p (take i xs)) ≡ all_below i (λ k. not (p (entry xs k)))
+unfolding all_below
+not_any p xs zero l = refl
+not_any p xs (suc i) l =
+    ap (λ (k : ℕ). not (list_any p (take k xs))) (sym (add-one i))
+    ∙ ap not (list_any_more p xs i 0 (omega arith))
+    ∙ neither (list_any p (take i xs)) (p (entry xs i))
+    ∙ ap (λ (b : Bool). b && not (p (entry xs i))) (not_any p xs i (omega arith))
+  where
+    neither : (a b : Bool) → not (a || b) ≡ (not a && not b)
+    neither true b = refl
+    neither false b = refl
 
 pub returns : goal.returns
-returns c = all_end _ c.loop-r.invariant.0 c.loop-r-test.false c.loop-r.invariant.1 ∙ sym (lacking_held _ _ _ _)
+returns c =
+    let xs = c.args.first.now in
+    let ys = c.args.second.now in
+    let few : length xs + length ys ≤ 2 * max_tasks = omega (arith, c.requires) in
+    ap not c.contains.ensures.value
+    ∙ not_any (λ y. eqb y 0) c.all_holders-found.result (length xs + length ys) (omega (arith, few, ap length c.all_holders-found.ensures ∙ length_holders (length xs) (length ys) (entry xs) (entry ys)))
+    ∙ all_cong _ _ (length xs + length ys) (λ r l. ap (λ (row : List ℕ). not (eqb (entry row r) 0)) c.all_holders-found.ensures
+    ∙ ap (λ (x : ℕ). not (eqb x 0)) (holder_at _ _ _ _ r few l))
+    ∙ sym (lacking_held _ _ _ _)

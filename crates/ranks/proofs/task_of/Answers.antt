@@ -1,17 +1,10 @@
--- The ranks are the first stripe of each list.
-use mathlib.Core.Path.{sym}
-use native.Mathlib.Omega.{arith}
-use Rattle.format.proofs.Stripes.{length_ranks}
+-- The ranks are the first entries of each list.
+use mathlib.Core.Path.{ap, ◌∙◌}
+use Rattle.ranks.specs.Holders.{some_task}
+use Rattle.ranks.proofs.Carrying.{holder_listed}
 use Rattle.ranks.proofs.task_of.Goals as goal
 
-pub slice_bounds-holder_of-end : goal.slice_bounds-holder_of-end
-slice_bounds-holder_of-end c = sym (length_ranks c.args.lists0.now c.requires.0)
-
-pub slice_bounds-holder_of-end-2 : goal.slice_bounds-holder_of-end-2
-slice_bounds-holder_of-end-2 c = sym (length_ranks c.args.lists1.now c.requires.1)
-
-pub holder_of-requires : goal.holder_of-requires
-holder_of-requires c =
-    let first = length_ranks c.args.lists0.now c.requires.0 in
-    let second = length_ranks c.args.lists1.now c.requires.1 in
-    (c.requires.2, c.requires.3, omega (arith, first, c.requires.2), omega (arith, second, c.requires.3))
+pub returns : goal.returns
+returns c =
+    let a = c.args in
+    c.holder_of.ensures ∙ ap some_task (holder_listed a.lists0.now a.lists1.now c.told-lists0 c.told-lists1 a.n a.m c.requires.0 c.requires.1 a.rank)

@@ -6,7 +6,7 @@ use Rattle.format.specs.Limits.{max_tasks, tasks_rule}
 use Rattle.format.specs.Meta1.{prefix_length}
 use Rattle.format.specs.Refusals.{first_failing}
 use Rattle.format.specs.Open.{shape_tests}
-use Rattle.opening.proofs.shape_refusal.Goals as goal
+use Rattle.opening.proofs.test_shape.Goals as goal
 
 pub returns-then-order-gt1 : goal.returns-then-order-gt1
 unfolding first_failing shape_tests

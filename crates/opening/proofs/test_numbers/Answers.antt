@@ -2,7 +2,7 @@
 use Rattle.lists.proofs.Below.{test_fails, test_holds}
 use Rattle.format.specs.Refusals.{first_failing}
 use Rattle.format.specs.Open.{number_tests}
-use Rattle.opening.proofs.number_refusal.Goals as goal
+use Rattle.opening.proofs.test_numbers.Goals as goal
 
 pub returns-then-not-ranks_ok : goal.returns-then-not-ranks_ok
 unfolding first_failing number_tests

@@ -1,15 +1,17 @@
 -- Each return by the tests that led there.
-use mathlib.Core.Path.{◌≡◌, sym, ap, subst, ◌∙◌}
+use mathlib.Core.Path.{◌≡◌, refl, sym, ap, subst, ◌∙◌}
 use mathlib.Core.Logic.{◌⊎◌, inl, inr}
 use Prim.Native.Nat.{ℕ, ◌<◌, ◌≤◌}
 use native.Mathlib.Omega.{arith}
+use Rattle.std.proofs.lemmas.Result.{err_from_is_err_and}
 use Rattle.format.specs.declared.head.File.TheVariants.{Single}
 use Rattle.format.specs.declared.session.Needed.{Needed}
 use Rattle.format.specs.Open.{Opening, opening_of, needs_answer, open_refusal}
+use Rattle.format.proofs.Refusals.{some_number}
 use Rattle.format.proofs.Opening.{open_plan, open_short, open_enough}
-use Rattle.opening.proofs.open_refusal.Goals as goal
+use Rattle.opening.proofs.test_opening.Goals as goal
 
--- what is answered beside what `rules` answered
+-- what is answered beside what is needed
 module _ (o : Opening) (image cells : ℕ) (r : Needed) (e : r ≡ needs_answer o) where
   refused : 0 < r.refusal → r.refusal ≡ open_refusal o image cells
   refused some = let n = ap (λ (a : Needed). a.refusal) e in n ∙ sym (open_plan o image cells (omega (arith, n, some)))
@@ -24,22 +26,23 @@ module _ (o : Opening) (image cells : ℕ) (r : Needed) (e : r ≡ needs_answer 
       subst (λ (a : Needed). a.refusal ≡ 0 → a.image ≤ image → a.cells ≤ cells → 0 ≡ open_refusal o image cells) (sym e)
       (λ none i t. sym (open_enough o image cells none i t))
 
-pub returns-then-needed-ne0 : goal.returns-then-needed-ne0
-returns-then-needed-ne0 c =
+pub returns-in_err-room : goal.returns-in_err-room
+returns-in_err-room c =
     let given : Opening = let a = c.args in opening_of Single a.plan a.ranks.now a.sizes.now a.prefix.now in
-    refused given c.args.image c.args.cells _ c.needs-needed.ensures (omega (arith, c.if-needed-ne0.true))
+    let p = err_from_is_err_and c.from_residual.result c.from_residual.ensures.1 in
+    rw (p.1, p.2) (refused given c.args.image c.args.cells _ c.in_err-room.ensures (some_number c.in_err-room.field-0.0))
 
-pub returns-then-image-needed : goal.returns-then-image-needed
-returns-then-image-needed c =
+pub returns-then-image-room : goal.returns-then-image-room
+returns-then-image-room c =
     let given : Opening = let a = c.args in opening_of Single a.plan a.ranks.now a.sizes.now a.prefix.now in
-    short given c.args.image c.args.cells _ c.needs-needed.ensures c.if-needed-ne0.false (inl c.if-image-needed.true)
+    short given c.args.image c.args.cells _ c.in_ok-room.ensures refl (inl c.if-image-room.true)
 
-pub returns-then-cells-needed : goal.returns-then-cells-needed
-returns-then-cells-needed c =
+pub returns-then-cells-room : goal.returns-then-cells-room
+returns-then-cells-room c =
     let given : Opening = let a = c.args in opening_of Single a.plan a.ranks.now a.sizes.now a.prefix.now in
-    short given c.args.image c.args.cells _ c.needs-needed.ensures c.if-needed-ne0.false (inr c.if-cells-needed.true)
+    short given c.args.image c.args.cells _ c.in_ok-room.ensures refl (inr c.if-cells-room.true)
 
 pub returns : goal.returns
 returns c =
     let given : Opening = let a = c.args in opening_of Single a.plan a.ranks.now a.sizes.now a.prefix.now in
-    enough given c.args.image c.args.cells _ c.needs-needed.ensures c.if-needed-ne0.false c.if-image-needed.false c.if-cells-needed.false
+    enough given c.args.image c.args.cells _ c.in_ok-room.ensures refl c.if-image-room.false c.if-cells-room.false
