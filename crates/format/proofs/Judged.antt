@@ -6,48 +6,18 @@ use mathlib.Core.Logic.{⊎_elim}
 use Prim.Native.Nat.{ℕ, zero, suc, ◌+◌, ◌<◌}
 use native.Mathlib.Nat.{not-suc-le-zero, eq-or-lt_of_le, le_of_suc-le-suc}
 use native.Mathlib.Numerals.{add-one}
-use native.Mathlib.Omega.{arith}
 use Rattle.lists.specs.Below.{join_below}
 use Rattle.format.specs.declared.fault.Broken.{Broken}
-use Rattle.format.specs.declared.refusal.Refusal.{Refusal}
-use Rattle.format.specs.declared.refusal.Refusal.TheVariants.{NoMark, NoOrder, ShortMeta1, BadFormat, BadBlocksize, BadTasks, BadFiles, BadRank, BadSize, NotClosed, BadMaxchunks, BadMeta2Place, BadMeta2, NoTask, TooLong, NoChunkLeft, BadRecord, TooShort, CellsDisagree, BadPlanned, LongPrefix, NoChunk, PastTotal, BadMapping}
 use Rattle.format.specs.Refusals.{Test, Verdict, first_failing, first_fault, verdict, passed, number_of}
-use Rattle.format.proofs.Refusals.{Numbered}
+use Rattle.format.proofs.Refusals.{Numbered, some_number}
 use Rattle.format.proofs.Verdicts.{verdict_passes, verdict_fails, each_join}
-
--- a refusal has a number, which is not 0
-pub number_some : (refusal : Refusal) → 0 < number_of refusal
-number_some NoMark = omega arith
-number_some NoOrder = omega arith
-number_some ShortMeta1 = omega arith
-number_some BadFormat = omega arith
-number_some BadBlocksize = omega arith
-number_some BadTasks = omega arith
-number_some BadFiles = omega arith
-number_some BadRank = omega arith
-number_some BadSize = omega arith
-number_some NotClosed = omega arith
-number_some BadMaxchunks = omega arith
-number_some BadMeta2Place = omega arith
-number_some BadMeta2 = omega arith
-number_some NoTask = omega arith
-number_some TooLong = omega arith
-number_some NoChunkLeft = omega arith
-number_some BadRecord = omega arith
-number_some TooShort = omega arith
-number_some CellsDisagree = omega arith
-number_some BadPlanned = omega arith
-number_some LongPrefix = omega arith
-number_some NoChunk = omega arith
-number_some PastTotal = omega arith
-number_some BadMapping = omega arith
 
 -- the verdict of what is broken, which is `judged` of an Err
 abbrev pub verdict_of : Broken → Verdict
 verdict_of b = record { refusal = number_of b.refusal; fault = b.fault }
 
 pub broken_fails : (ts : List Test) (b : Broken) → verdict_of b ≡ verdict ts → 0 < first_failing ts
-broken_fails ts b e = subst (λ (r : ℕ). 0 < r) (λ i. (e i).refusal) (number_some b.refusal)
+broken_fails ts b e = subst (λ (r : ℕ). 0 < r) (λ i. (e i).refusal) (some_number b.refusal)
 
 pub passed_passes : (ts : List Test) → passed ≡ verdict ts → first_failing ts ≡ 0
 passed_passes ts e = λ i. (sym e i).refusal

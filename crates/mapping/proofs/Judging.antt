@@ -1,5 +1,5 @@
 -- A signed number widened, and the tests of an entry and of a whole mapping by numbers that are read without a sign.
-use mathlib.Core.Path.{◌≡◌, refl, sym, ap, subst, ◌∙◌}
+use mathlib.Core.Path.{◌≡◌, refl, ap, ◌∙◌}
 use mathlib.Core.Bool.{Bool, true, false, not}
 use mathlib.Core.List.{List, [], ◌∷◌}
 use Prim.Native.Nat.{ℕ, suc, ◌+◌, ◌-◌, ◌*◌, ◌≤◌, ◌<◌}
@@ -26,9 +26,6 @@ use Rattle.pairs.specs.Mapping.{mapping_length, entry_tests, mapping_tests}
 use Rattle.mapping.specs.Entries.{named_tests}
 
 -- ---- a signed number of 4 bytes keeps its value in 8
-
-pub wide_fits : {z : ℤ} → SFits w32 z → SFits w64 (to_z w32 (of_z w32 z))
-wide_fits f = subst (SFits w64) (sym (to_z-of_z f)) (sfits_widen tt f)
 
 pub wide_same : {z : ℤ} → SFits w32 z → to_z w64 (of_z w64 (to_z w32 (of_z w32 z))) ≡ z
 wide_same f = ap (λ (z : ℤ). to_z w64 (of_z w64 z)) (to_z-of_z f) ∙ to_z-of_z {w = w64} (sfits_widen tt f)

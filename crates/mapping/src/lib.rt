@@ -80,12 +80,10 @@ pub fn put(
     ensures { Spends budget image.old at (mapping (length first.now) (length second.now) (entry first.now) (entry second.now) big) image.new result }
 {
     let mut bytes = [0; MOST];
-    let n = first.len();
-    let m = second.len();
-    let size = n + m;
+    let size = first.len() + second.len();
     numbers::put_u32(&mut bytes, 0, big, size as u32);
-    let holders = ranks::all_holders(first, n, second, m);
-    put_entries(&mut bytes, &holders[..size], n as u64, big);
+    let holders = ranks::all_holders(first, second);
+    put_entries(&mut bytes, &holders[..size], first.len() as u64, big);
     let end = 4 + 8 * size;
     memory::copy_within(&mut image[at..], &bytes[..end], budget)
 }
