@@ -28,7 +28,7 @@ fn field_is(xs: &[u8], at: usize, big: bool, value: u32) -> bool
     requires { (at + 4 ≤ length xs.now) × (value < 2 ^ 31) }
     ensures { result ≡ is value (signed_at big 4 xs.now at) }
 {
-    read::get_u32(xs, at, big).value == value
+    read::get::<u32>(xs, at, big).value == value
 }
 
 // Test 2: the order number is 1 in one of the two byte orders; whether that is the big one is handed back.
@@ -71,7 +71,7 @@ fn judge_value(xs: &[u8], at: usize, big: bool, field: Field, value: u32) -> Res
     requires { (at + 4 ≤ length xs.now) × (value < 2 ^ 31) }
     ensures { judged result ≡ verdict (value_test (kind_of field) at (signed_at big 4 xs.now at) value ∷ []) }
 {
-    let read = read::get_u32(xs, at, big);
+    let read = read::get::<u32>(xs, at, big);
     if read.value != value {
         let needed = value as u64;
         return Err(faults::number4(Refusal::BadFiles, field, read, needed, needed));
@@ -85,17 +85,17 @@ fn judge_fields(file: File, xs: &[u8], len: u64, big: bool) -> Result<Head, Brok
     ensures verdict { judged result ≡ verdict (field_tests xs.now file len) }
     ensures head { IfOk result (λ h. h ≡ head_in xs.now) }
 {
-    let format = read::get_u32(xs, field::FORMAT_AT, big);
+    let format = read::get::<u32>(xs, field::FORMAT_AT, big);
     if !limits::format_ok(format.value) {
         let (least, most) = (limit::PLAIN_FORMAT as u64, limit::IDLE_FORMAT as u64);
         return Err(faults::number4(Refusal::BadFormat, Field::Format, format, least, most));
     }
-    let block = read::get_u32(xs, field::BLOCKSIZE_AT, big);
+    let block = read::get::<u32>(xs, field::BLOCKSIZE_AT, big);
     if !limits::blocksize_ok(block.value) {
         let (least, most) = (limit::MIN_BLOCKSIZE as u64, limit::MAX_BLOCKSIZE as u64);
         return Err(faults::number4(Refusal::BadBlocksize, Field::Blocksize, block, least, most));
     }
-    let n = read::get_u32(xs, field::TASKS_AT, big);
+    let n = read::get::<u32>(xs, field::TASKS_AT, big);
     if !limits::tasks_ok(n.value) {
         let most = limit::MAX_TASKS as u64;
         return Err(faults::number4(Refusal::BadTasks, Field::Tasks, n, 1, most));
@@ -110,8 +110,8 @@ fn judge_fields(file: File, xs: &[u8], len: u64, big: bool) -> Result<Head, Brok
     }
     Ok(Head {
         order: big as u32,
-        version: read::get_i32(xs, field::VERSION_AT, big).value,
-        patch: read::get_i32(xs, field::PATCH_AT, big).value,
+        version: read::get::<i32>(xs, field::VERSION_AT, big).value,
+        patch: read::get::<i32>(xs, field::PATCH_AT, big).value,
         format: format.value,
         blocksize: block.value,
         n: n.value,

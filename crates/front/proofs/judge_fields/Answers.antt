@@ -12,7 +12,7 @@ use borrow.Author.Rules.{rules}
 use borrow.Author.Tests.{lt-ltb, le-ltb}
 use Rattle.endian.specs.Number.{number_at}
 use Rattle.endian.specs.Signed.{signed, signed_at}
-use Rattle.endian.specs.declared.read.Number4.{Number4}
+use Rattle.endian.specs.declared.read.Read.{Read}
 use Rattle.format.specs.Limits.{format_rule, blocksize_rule, tasks_rule}
 use Rattle.format.specs.Layout.{meta1_end}
 use Rattle.format.specs.Kinds
@@ -38,12 +38,12 @@ order_number true = refl
 order_number false = refl
 
 -- a rule of a number that is read says the same of the number in the file
-ruled : (rule : ℤ → Bool) {read : Number4} {value at : ℕ} {answer : Bool} → read ≡ record { value = value; at = at } → answer ≡ rule (pos read.value)
+ruled : (rule : ℤ → Bool) {read : Read ℕ} {value at : ℕ} {answer : Bool} → read ≡ record { value = value; at = at } → answer ≡ rule (pos read.value)
     → not (rule (pos value)) ≡ not answer
 ruled rule is e = (λ i. not (rule (pos (sym is i).value))) ∙ ap not (sym e)
 
 -- what is broken is said of the number in the file
-said : (refusal : Refusal) (kind least most : ℕ) {b : Broken} {read : Number4} {value at : ℕ} → read ≡ record { value = value; at = at }
+said : (refusal : Refusal) (kind least most : ℕ) {b : Broken} {read : Read ℕ} {value at : ℕ} → read ≡ record { value = value; at = at }
     → b ≡ record { refusal = refusal; fault = number_fault kind read.at (signed 31 read.value) least most }
     → verdict_of b ≡ record { refusal = number_of refusal; fault = number_fault kind at (signed 31 value) least most }
 said refusal kind least most is e =
@@ -54,9 +54,9 @@ asked_7 : (c : After-files_of-files) → let a = c.args in
     verdict (field_tests a.xs.now a.file a.len) ≡ verdict (from_7 a.xs.now a.file a.len c.requires.0 (number_at a.big 4 a.xs.now tasks_at))
 asked_7 c = let a = c.args in
     fields_unsigned a.xs.now a.file a.len c.requires.0
-    ∙ passes_first _ _ (ruled format_rule c.get_u32-format.ensures c.if-not-format_ok.ensures)
-    ∙ passes_first _ _ (ruled blocksize_rule c.get_u32-block.ensures c.if-not-blocksize_ok.ensures)
-    ∙ passes_first _ _ (ruled tasks_rule c.get_u32-n.ensures c.if-not-tasks_ok.ensures)
+    ∙ passes_first _ _ (ruled format_rule c.get-format.ensures c.if-not-format_ok.ensures)
+    ∙ passes_first _ _ (ruled blocksize_rule c.get-block.ensures c.if-not-blocksize_ok.ensures)
+    ∙ passes_first _ _ (ruled tasks_rule c.get-n.ensures c.if-not-tasks_ok.ensures)
 
 -- both tests of 7
 abbrev files_test : Bool → List ℕ → File → Test
@@ -86,24 +86,24 @@ last c left e = let a = c.args in
 
 pub returns-then-not-format_ok-clause-verdict : goal.returns-then-not-format_ok-clause-verdict
 returns-then-not-format_ok-clause-verdict c = let a = c.args in
-    said BadFormat Kinds.format _ _ c.get_u32-format.ensures c.number4.ensures
+    said BadFormat Kinds.format _ _ c.get-format.ensures c.number4.ensures
     ∙ sym (fields_unsigned a.xs.now a.file a.len c.requires.0
-    ∙ fails_first _ _ (ruled format_rule c.get_u32-format.ensures c.if-not-format_ok.ensures))
+    ∙ fails_first _ _ (ruled format_rule c.get-format.ensures c.if-not-format_ok.ensures))
 
 pub returns-then-not-blocksize_ok-clause-verdict : goal.returns-then-not-blocksize_ok-clause-verdict
 returns-then-not-blocksize_ok-clause-verdict c = let a = c.args in
-    said BadBlocksize Kinds.blocksize _ _ c.get_u32-block.ensures c.number4-then-not-blocksize_ok.ensures
+    said BadBlocksize Kinds.blocksize _ _ c.get-block.ensures c.number4-then-not-blocksize_ok.ensures
     ∙ sym (fields_unsigned a.xs.now a.file a.len c.requires.0
-    ∙ passes_first _ _ (ruled format_rule c.get_u32-format.ensures c.if-not-format_ok.ensures)
-    ∙ fails_first _ _ (ruled blocksize_rule c.get_u32-block.ensures c.if-not-blocksize_ok.ensures))
+    ∙ passes_first _ _ (ruled format_rule c.get-format.ensures c.if-not-format_ok.ensures)
+    ∙ fails_first _ _ (ruled blocksize_rule c.get-block.ensures c.if-not-blocksize_ok.ensures))
 
 pub returns-then-not-tasks_ok-clause-verdict : goal.returns-then-not-tasks_ok-clause-verdict
 returns-then-not-tasks_ok-clause-verdict c = let a = c.args in
-    said BadTasks Kinds.tasks _ _ c.get_u32-n.ensures c.number4-then-not-tasks_ok.ensures
+    said BadTasks Kinds.tasks _ _ c.get-n.ensures c.number4-then-not-tasks_ok.ensures
     ∙ sym (fields_unsigned a.xs.now a.file a.len c.requires.0
-    ∙ passes_first _ _ (ruled format_rule c.get_u32-format.ensures c.if-not-format_ok.ensures)
-    ∙ passes_first _ _ (ruled blocksize_rule c.get_u32-block.ensures c.if-not-blocksize_ok.ensures)
-    ∙ fails_first _ _ (ruled tasks_rule c.get_u32-n.ensures c.if-not-tasks_ok.ensures))
+    ∙ passes_first _ _ (ruled format_rule c.get-format.ensures c.if-not-format_ok.ensures)
+    ∙ passes_first _ _ (ruled blocksize_rule c.get-block.ensures c.if-not-blocksize_ok.ensures)
+    ∙ fails_first _ _ (ruled tasks_rule c.get-n.ensures c.if-not-tasks_ok.ensures))
 
 pub returns-in_err-judge_value-clause-verdict : goal.returns-in_err-judge_value-clause-verdict
 returns-in_err-judge_value-clause-verdict c =
@@ -138,7 +138,7 @@ not_as_needed-requires c = (omega (arith, c.meta1_end-end.ensures), omega (arith
 pub returns-then-len-end-clause-verdict : goal.returns-then-len-end-clause-verdict
 returns-then-len-end-clause-verdict c =
     let n = number_at c.args.big 4 c.args.xs.now tasks_at in
-    let end_is : c.meta1_end-end.result ≡ meta1_end n = c.meta1_end-end.ensures ∙ (λ i. meta1_end (c.get_u32-n.ensures i).value) in
+    let end_is : c.meta1_end-end.result ≡ meta1_end n = c.meta1_end-end.ensures ∙ (λ i. meta1_end (c.get-n.ensures i).value) in
     let at = goal.at.returns-then-len-end-clause-verdict c in
     last at.After-meta1_end-end (asked_7 at.After-files_of-files)
     (ap verdict_of c.not_as_needed.ensures
@@ -149,16 +149,16 @@ pub returns : goal.returns
 returns c =
     let a = c.args in
     let n = number_at a.big 4 a.xs.now tasks_at in
-    let end_is : c.meta1_end-end.result ≡ meta1_end n = c.meta1_end-end.ensures ∙ (λ i. meta1_end (c.get_u32-n.ensures i).value) in
+    let end_is : c.meta1_end-end.result ≡ meta1_end n = c.meta1_end-end.ensures ∙ (λ i. meta1_end (c.get-n.ensures i).value) in
     let passes : passed ≡ verdict (field_tests a.xs.now a.file a.len) =
     last (goal.at.returns c).After-meta1_end-end (asked_7 (goal.at.returns c).After-files_of-files)
     (sym (passes_last (end_test a.len (meta1_end n)) (rw (sym end_is) (le-ltb _ _ c.if-len-end.false)))) in
-    let version = to_z-of_z {w = w32} (search rules) ∙ (λ i. (c.get_i32.ensures i).value) in
-    let patch = to_z-of_z {w = w32} (search rules) ∙ (λ i. (c.get_i32-2.ensures i).value) in
+    let version = to_z-of_z {w = w32} (search rules) ∙ (λ i. (c.get.ensures i).value) in
+    let patch = to_z-of_z {w = w32} (search rules) ∙ (λ i. (c.get-2.ensures i).value) in
     record {
       verdict = passes;
       head =
-          (λ i. head_of (order_number a.big i) (version i) (patch i) (c.get_u32-format.ensures i).value (c.get_u32-block.ensures i).value
-          (c.get_u32-n.ensures i).value (c.files_of-files.ensures i) (c.number_of-number.ensures i))
+          (λ i. head_of (order_number a.big i) (version i) (patch i) (c.get-format.ensures i).value (c.get-block.ensures i).value
+          (c.get-n.ensures i).value (c.files_of-files.ensures i) (c.number_of-number.ensures i))
           ∙ fields_read a.xs.now a.file a.len c.requires.0 passes;
     }
