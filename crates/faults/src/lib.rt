@@ -4,6 +4,7 @@
 
 ghost use Rattle.std.specs.Prelude.{◌≡◌, cond, ◌<◌, ◌^◌, pos};
 ghost use Rattle.endian.specs.Signed.{signed};
+ghost use Rattle.endian.specs.declared.read.Read.{Read};
 ghost use Rattle.format.specs.declared.fault.Broken.{Broken};
 ghost use Rattle.format.specs.declared.refusal.Refusal.TheVariants.{BadMeta2};
 ghost use Rattle.format.specs.Kinds;
