@@ -1,26 +1,18 @@
--- Laws of numbers as bytes, each once for every width and in either order: lengths, bytes, there and back, that a number has one list of bytes, and a
+-- Laws of numbers as bytes, each once for every width and in either order: lengths, bytes, there and back (from `specs.RoundTrip`), that a number has one list of bytes, and a
 -- number from its bytes one by one.
 use mathlib.Core.Path.{◌≡◌, refl, sym, ap, ap₂, ◌∙◌}
 use mathlib.Core.Bool.{Bool, true, false}
 use mathlib.Core.List.{List, [], ◌∷◌, reverse, reverse_aux, reverse-reverse}
-use Prim.Native.Nat.{ℕ, zero, suc, ◌+◌, ◌*◌, ◌/◌, ◌%◌, ◌^◌, ◌<◌, ◌≤◌}
-use native.Mathlib.Nat.{add-suc, suc-add, div-lt_iff_lt-mul, div-add-mod', pow-suc}
+use Prim.Native.Nat.{ℕ, zero, suc, ◌+◌, ◌/◌, ◌<◌, ◌≤◌}
+use native.Mathlib.Nat.{add-suc, suc-add}
 use native.Mathlib.Omega.{arith}
-use lib.Arith.{lt-one}
 use lib.Dec.{lit<}
 use lib.ListN.{length, take, drop, get_or, length-reverse}
 use lib.Seq.{drop-cons}
+pub use Rattle.endian.specs.RoundTrip.{length_digits, number_digits}
 use Rattle.lists.specs.Below.{join_below, list_below}
 use Rattle.endian.specs.Number.{little, number, lowest, digits, number_at}
 use Rattle.lists.proofs.Below.{part_list, join_cong}
-
-length_lowest : (w v : ℕ) → length (lowest w v) ≡ w
-length_lowest zero v = refl
-length_lowest (suc w) v = ap suc (length_lowest w (v / 256))
-
-pub length_digits : (big : Bool) (w v : ℕ) → length (digits big w v) ≡ w
-length_digits true w v = length-reverse (lowest w v) ∙ length_lowest w v
-length_digits false w v = length_lowest w v
 
 -- each element is a byte, also the other way round
 abbrev Bytes : List ℕ → Type 0
@@ -45,17 +37,6 @@ bytes_lowest (suc w) v = bytes_more (lowest w (v / 256)) (omega arith) (bytes_lo
 pub digits_bytes : (big : Bool) (w v : ℕ) (i : ℕ) → get_or (digits big w v) i 0 < 256
 digits_bytes true w v = bytes_reversed (lowest w v) [] (bytes_lowest w v) bytes_none
 digits_bytes false w v = bytes_lowest w v
-
--- a number of w bytes, written and read
-little_lowest : (w v : ℕ) → v < 256 ^ w → little (lowest w v) ≡ v
-little_lowest zero v h = sym (lt-one h)
-little_lowest (suc w) v h =
-    ap (λ (n : ℕ). n * 256 + v % 256) (little_lowest w (v / 256) ((div-lt_iff_lt-mul (lit< tt)).1 (rw pow-suc at h)))
-    ∙ div-add-mod' v 256
-
-pub number_digits : (big : Bool) (w v : ℕ) → v < 256 ^ w → number big (digits big w v) ≡ v
-number_digits true w v h = ap little (reverse-reverse (lowest w v)) ∙ little_lowest w v h
-number_digits false w v h = little_lowest w v h
 
 -- lists of bytes of one length that say the same number are the same
 little_same : (xs ys : List ℕ) → length xs ≡ length ys → Bytes xs → Bytes ys → little xs ≡ little ys → xs ≡ ys

@@ -2,31 +2,23 @@
 use mathlib.Core.Path.{◌≡◌, refl, sym, ap, ◌∙◌}
 use mathlib.Core.Bool.{Bool, true, false, cond, ◌&&◌, and-false, false≢true}
 use mathlib.Core.List.{List, ◌++◌, append_assoc}
-use Prim.Native.Nat.{ℕ, zero, suc, ◌+◌, ◌-◌, ◌*◌, ◌^◌, ◌<◌, ◌≤◌}
-use native.Mathlib.Nat.{pow-suc, mul-suc, mul_comm, mul-le-mul_left, le_antisymm}
+use Prim.Native.Nat.{ℕ, suc, ◌+◌, ◌-◌, ◌*◌, ◌^◌, ◌<◌, ◌≤◌}
+use native.Mathlib.Nat.{mul_comm, mul-le-mul_left, le_antisymm}
 use native.Mathlib.Omega.{arith}
-use lib.Arith.{comp_comp, comp_ge}
 use lib.Dec.{ltb, leb}
 use lib.IntN.{ℤ, pos, negsuc}
 use lib.ListN.{length, take, drop}
-use lib.Pow.{pow-add}
 use lib.Seq.{take_at, drop-drop, drop-append-le}
 use lib.Signed.{mag}
-use borrow.Author.Tests.{lt-ltb, le-ltb, ltb-true, ltb-false, leb-true, le-leb, lt-leb, eqb-true, eq-eqb}
+use borrow.Author.Tests.{ltb-true, ltb-false, leb-true, le-leb, lt-leb, eqb-true, eq-eqb}
+pub use Rattle.endian.specs.RoundTrip.{signed_low, signed_high, signed_number_digits}
 use Rattle.lists.specs.Below.{join_below}
 use Rattle.lists.specs.Logic.{Not}
 use Rattle.endian.specs.Number.{number}
 use Rattle.endian.specs.Signed.{signed, bits_of, sign_bit, signed_at, signed_digits, within, same_z, natural}
 use Rattle.lists.proofs.Below.{and_left, and_right, length_join}
-use Rattle.endian.proofs.Number.{length_digits, number_digits}
+use Rattle.endian.proofs.Number.{length_digits}
 use Rattle.lists.proofs.Pieces.{drop_join}
-
--- the lower and the upper half of the numbers of h + 1 bits
-pub signed_low : (h n : ℕ) → n < 2 ^ h → signed h n ≡ pos n
-signed_low h n l = rw (lt-ltb n (2 ^ h) l)
-
-pub signed_high : (h n : ℕ) → 2 ^ h ≤ n → signed h n ≡ negsuc (2 ^ suc h - suc n)
-signed_high h n l = rw (le-ltb n (2 ^ h) l)
 
 pub natural_signed : (h n : ℕ) → n < 2 ^ h → natural (signed h n) ≡ n
 natural_signed h n l = ap natural (signed_low h n l)
@@ -37,16 +29,6 @@ signed_pos h n m e = go (ltb n (2 ^ h)) e
     go : (b : Bool) → cond b (pos n) (negsuc (2 ^ suc h - suc n)) ≡ pos m → n ≡ m
     go true e = cc
     go false e = cc
-
-signed_bits_of : (h : ℕ) (z : ℤ) → mag z < 2 ^ h → signed h (bits_of h z) ≡ z
-signed_bits_of h (pos n) l = signed_low h n l
-signed_bits_of h (negsuc n) l =
-    let e = pow-suc 2 h in
-    signed_high h (2 ^ suc h - suc n) (rw e (comp_ge l)) ∙ ap negsuc (comp_comp (rw e (omega arith)))
-
-bits_of_lt : (h : ℕ) (z : ℤ) → mag z < 2 ^ h → bits_of h z < 2 ^ suc h
-bits_of_lt h (pos n) l = let e = pow-suc 2 h in omega arith
-bits_of_lt h (negsuc n) l = let e = pow-suc 2 h in omega arith
 
 -- what a range test says of a number that is not negative, and back
 pub within_facts : (lo hi n : ℕ) → within lo hi (pos n) ≡ true → (lo ≤ n) × (n ≤ hi)
@@ -87,14 +69,6 @@ within_signed lo hi h n l = go (ltb n (2 ^ h)) refl
         let m : 2 ^ h ≤ n = ltb-false _ _ e in
         ap (within lo hi) (signed_high h n m) ∙ sym (rw (lt-leb n hi (omega arith)) (and-false (leb lo n)))
 
--- the bits of w bytes
-pow_bytes : (w : ℕ) → 2 ^ (8 * w) ≡ 256 ^ w
-pow_bytes zero = refl
-pow_bytes (suc w) = rw (mul-suc, pow-add 2 (8 * w) 8, pow_bytes w, pow-suc 256 w)
-
-pow_sign_bit : (w : ℕ) → 0 < w → 2 ^ suc (sign_bit w) ≡ 256 ^ w
-pow_sign_bit w h = ap (λ (n : ℕ). 2 ^ n) (omega arith) ∙ pow_bytes w
-
 -- n integers, one after the other
 pub length_numbers : (big : Bool) (w n : ℕ) (f : ℕ → ℤ) → length (join_below n (λ i. signed_digits big w (f i))) ≡ w * n
 length_numbers big w n f = length_join (λ i. signed_digits big w (f i)) n w (λ i l. length_digits big w _) ∙ mul_comm n w
@@ -105,7 +79,7 @@ pub signed_there : (big : Bool) (w : ℕ) (z : ℤ) (xs rest : List ℕ) (at : �
 signed_there big w z xs rest at some e l =
     let h : ℕ = sign_bit w in
     ap (λ (s : List ℕ). signed h (number big s)) (ap (take w) e ∙ take_at (signed_digits big w z) rest w (length_digits big w (bits_of h z)))
-    ∙ ap (signed h) (number_digits big w (bits_of h z) (rw (pow_sign_bit w some) at (bits_of_lt h z l))) ∙ signed_bits_of h z l
+    ∙ signed_number_digits big w z some l
 
 pub signed_listed : (big : Bool) (w n : ℕ) (f : ℕ → ℤ) (xs rest : List ℕ) (at : ℕ) → 0 < w
     → drop at xs ≡ join_below n (λ i. signed_digits big w (f i)) ++ rest

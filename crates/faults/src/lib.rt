@@ -4,7 +4,7 @@
 
 ghost use Rattle.std.specs.Prelude.{◌≡◌, cond, ◌<◌, ◌^◌, pos};
 ghost use Rattle.endian.specs.Signed.{signed};
-ghost use Rattle.endian.specs.declared.read.Number4.{Number4};
+ghost use Rattle.endian.specs.declared.read.Read.{Read};
 ghost use Rattle.format.specs.declared.fault.Broken.{Broken};
 ghost use Rattle.format.specs.declared.refusal.Refusal.TheVariants.{BadMeta2};
 ghost use Rattle.format.specs.Kinds;
@@ -12,13 +12,13 @@ ghost use Rattle.format.specs.Refusals.{fault_of, kind_of};
 ghost use Rattle.format.specs.Judge.{number_fault};
 ghost use Rattle.format.specs.Meta2.{unused};
 
-use endian::read::Number4;
+use endian::read::Read;
 use endian::sign;
 use format::fault::{Broken, Fault, Field};
 use format::refusal::Refusal;
 
 // A field of 4 bytes, which is of no task.
-pub fn number4(refusal: Refusal, field: Field, read: Number4, least: u64, most: u64) -> Broken
+pub fn number4(refusal: Refusal, field: Field, read: Read<u32>, least: u64, most: u64) -> Broken
     requires { (least < 2 ^ 63) × (most < 2 ^ 63) }
     ensures { result ≡ record { refusal = refusal; fault = number_fault (kind_of field) read.at (signed 31 read.value) least most } }
 {

@@ -6,9 +6,10 @@ use mathlib.Core.Logic.{⊎_elim}
 use Prim.Native.Nat.{ℕ, zero, suc, ◌+◌, ◌<◌}
 use native.Mathlib.Nat.{not-suc-le-zero, eq-or-lt_of_le, le_of_suc-le-suc}
 use native.Mathlib.Numerals.{add-one}
+use Rattle.std.specs.Prelude.{Result, Ok, Err, IsErrAnd}
 use Rattle.lists.specs.Below.{join_below}
 use Rattle.format.specs.declared.fault.Broken.{Broken}
-use Rattle.format.specs.Refusals.{Test, Verdict, first_failing, first_fault, verdict, passed, number_of}
+use Rattle.format.specs.Refusals.{Test, Verdict, first_failing, first_fault, verdict, passed, number_of, judged}
 use Rattle.format.proofs.Refusals.{Numbered, some_number}
 use Rattle.format.proofs.Verdicts.{verdict_passes, verdict_fails, each_join}
 
@@ -21,6 +22,11 @@ broken_fails ts b e = subst (λ (r : ℕ). 0 < r) (λ i. (e i).refusal) (some_nu
 
 pub passed_passes : (ts : List Test) → passed ≡ verdict ts → first_failing ts ≡ 0
 passed_passes ts e = λ i. (sym e i).refusal
+
+-- the exit of a `?` hands on what was found broken
+pub handed_on : {A : Type 0} (r : Result A Broken) (b : Broken) → IsErrAnd r (λ e. e ≡ b) → judged r ≡ verdict_of b
+handed_on (Ok x) b same = absurd same
+handed_on (Err e) b same = λ i. verdict_of (same i)
 
 -- ---- two lists
 

@@ -46,7 +46,7 @@ pub extern "C" fn lapur_chunk_size(size: u64, blocksize: u32) -> ByteCount
 pub extern "C" fn lapur_needs(plan: Plan, ranks: &[u64], sizes: &[u64], prefix: &[u8]) -> Needed
     ensures { result ≡ needs_answer (opening_of Single plan ranks.now sizes.now prefix.now) }
 {
-    container::needs(plan, ranks, sizes, prefix)
+    Needed::from(container::needs(plan, ranks, sizes, prefix))
 }
 
 #[unsafe(no_mangle)]

@@ -40,9 +40,9 @@ pub extern "C" fn lapur_pair_needs(
 ) -> PairNeeded
     ensures { result ≡ pair_needs (opening_of First plan0 ranks0.now sizes0.now prefix0.now) (opening_of Second plan1 ranks1.now sizes1.now prefix1.now) }
 {
-    pair::needs(
+    PairNeeded::from(pair::needs(
         plan0, ranks0, sizes0, prefix0, plan1, ranks1, sizes1, prefix1,
-    )
+    ))
 }
 
 #[unsafe(no_mangle)]

@@ -77,14 +77,13 @@ fn test_shape(
 
 // Tests 8, 9 and 20.
 fn test_numbers(ranks: &[u64], sizes: &[u64], planned: u32) -> Result<(), Refusal>
-    requires { length ranks.now ≤ length sizes.now }
+    requires { length sizes.now ≡ length ranks.now }
     ensures { answered result ≡ first_failing (number_tests ranks.now sizes.now planned) }
 {
-    let n = ranks.len();
-    if !limits::ranks_ok(ranks, n) {
+    if !limits::ranks_ok(ranks) {
         return Err(Refusal::BadRank);
     }
-    if !limits::sizes_ok(sizes, n) {
+    if !limits::sizes_ok(sizes) {
         return Err(Refusal::BadSize);
     }
     if !limits::planned_ok(planned) {

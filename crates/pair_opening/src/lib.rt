@@ -2,34 +2,24 @@
 // that file; each file has its own whole list of arguments.
 #![tactic(auto)]
 
-ghost use Rattle.std.specs.Prelude.{◌≡◌};
+ghost use Rattle.std.specs.Prelude.{◌≡◌, Ok};
 ghost use Rattle.format.specs.declared.head.File.TheVariants.{First, Second};
 ghost use Rattle.format.specs.declared.session.Plan.{Plan};
 ghost use Rattle.format.specs.Record.{no_lists};
 ghost use Rattle.format.specs.Session.{no_session};
 ghost use Rattle.format.specs.Open.{opening_of};
-ghost use Rattle.pairs.specs.declared.PairNeeded.{PairNeeded};
+ghost use Rattle.format.specs.Refusals.{number_of, answered};
+ghost use Rattle.pairs.specs.Answers.{pair_needed_of};
 ghost use Rattle.pairs.specs.declared.PairOpened.{PairOpened};
-ghost use Rattle.pairs.specs.Open.{pair_needs, pair_opened, pair_found, pair_images, pair_tables};
+ghost use Rattle.pairs.specs.Open.{pair_needs, pair_open_refusal, pair_opened, pair_found, pair_images, pair_tables};
 ghost use Rattle.pair_opening.specs.Short.{short_of};
 
 use format::head::{File, LISTS};
 use format::session::{Plan, Session};
-use format::{limit, refusal};
-use pairs::{PairNeeded, PairOpened};
+use format::limit;
+use format::refusal::Refusal;
+use pairs::{PairOpened, PairRoom};
 use rules::heads;
-
-fn no_need(refusal: u32) -> PairNeeded
-    ensures { result ≡ record { refusal = refusal; image0 = 0; cells0 = 0; image1 = 0; cells1 = 0 } }
-{
-    PairNeeded {
-        refusal,
-        image0: 0,
-        cells0: 0,
-        image1: 0,
-        cells1: 0,
-    }
-}
 
 // The lengths that an opening requires of both images and tables, or the refusal of its plans: file 0's up to 20, file 1's so, then 8 for the ranks
 // of both.
@@ -42,56 +32,73 @@ pub fn needs(
     ranks1: &[u64],
     sizes1: &[u64],
     prefix1: &[u8],
-) -> PairNeeded
-    ensures { result ≡ pair_needs (opening_of First plan0 ranks0.now sizes0.now prefix0.now) (opening_of Second plan1 ranks1.now sizes1.now prefix1.now) }
+) -> Result<PairRoom, Refusal>
+    ensures { pair_needed_of result ≡ pair_needs (opening_of First plan0 ranks0.now sizes0.now prefix0.now) (opening_of Second plan1 ranks1.now sizes1.now prefix1.now) }
 {
-    let one = opening::needs(plan0, ranks0, sizes0, prefix0);
-    if one.refusal != 0 {
-        return no_need(one.refusal);
+    let one = opening::needs(plan0, ranks0, sizes0, prefix0)?;
+    let two = opening::needs(plan1, ranks1, sizes1, prefix1)?;
+    if !ranks::none_lacking(ranks0, ranks1) {
+        return Err(Refusal::BadRank);
     }
-    let two = opening::needs(plan1, ranks1, sizes1, prefix1);
-    if two.refusal != 0 {
-        return no_need(two.refusal);
-    }
-    let n = ranks0.len();
-    let m = ranks1.len();
-    if !ranks::none_lacking(ranks0, n, ranks1, m) {
-        return no_need(refusal::BAD_RANK);
-    }
-    PairNeeded {
-        refusal: 0,
-        image0: one.image + mapping::length_of(n, m),
+    Ok(PairRoom {
+        image0: one.image + mapping::length_of(ranks0.len(), ranks1.len()),
         cells0: one.cells,
         image1: two.image,
         cells1: two.cells,
-    }
+    })
 }
 
-// The plans' tests, then 18 for file 0 and for file 1, by the lengths of what is lent.
-fn open_refusal(needed: PairNeeded, image0: u64, cells0: u64, image1: u64, cells1: u64) -> u32
-    ensures { result ≡ short_of needed image0 cells0 image1 cells1 }
+// 18 for file 0 and for file 1, by the lengths of what is lent.
+fn test_room(
+    room: PairRoom,
+    image0: u64,
+    cells0: u64,
+    image1: u64,
+    cells1: u64,
+) -> Result<(), Refusal>
+    ensures { answered result ≡ short_of (pair_needed_of (Ok room)) image0 cells0 image1 cells1 }
 {
-    if needed.refusal != 0 {
-        return needed.refusal;
+    if image0 < room.image0 {
+        return Err(Refusal::TooShort);
     }
-    if image0 < needed.image0 {
-        return refusal::TOO_SHORT;
+    if cells0 < room.cells0 {
+        return Err(Refusal::TooShort);
     }
-    if cells0 < needed.cells0 {
-        return refusal::TOO_SHORT;
+    if image1 < room.image1 {
+        return Err(Refusal::TooShort);
     }
-    if image1 < needed.image1 {
-        return refusal::TOO_SHORT;
+    if cells1 < room.cells1 {
+        return Err(Refusal::TooShort);
     }
-    if cells1 < needed.cells1 {
-        return refusal::TOO_SHORT;
-    }
-    0
+    Ok(())
+}
+
+// The plans' tests, and then 18.
+fn test_opening(
+    plan0: Plan,
+    ranks0: &[u64],
+    sizes0: &[u64],
+    prefix0: &[u8],
+    image0: u64,
+    cells0: u64,
+    plan1: Plan,
+    ranks1: &[u64],
+    sizes1: &[u64],
+    prefix1: &[u8],
+    image1: u64,
+    cells1: u64,
+) -> Result<(), Refusal>
+    ensures { answered result ≡ pair_open_refusal (opening_of First plan0 ranks0.now sizes0.now prefix0.now) (opening_of Second plan1 ranks1.now sizes1.now prefix1.now) image0 cells0 image1 cells1 }
+{
+    let room = needs(
+        plan0, ranks0, sizes0, prefix0, plan1, ranks1, sizes1, prefix1,
+    )?;
+    test_room(room, image0, cells0, image1, cells1)
 }
 
 // A refusal beside two records of zeros marked closed.
-fn no_pair(refusal: u32) -> PairOpened
-    ensures { result ≡ record { session0 = no_session; lists0 = no_lists; session1 = no_session; lists1 = no_lists; refusal = refusal } }
+fn no_pair(refusal: Refusal) -> PairOpened
+    ensures { result ≡ record { session0 = no_session; lists0 = no_lists; session1 = no_session; lists1 = no_lists; refusal = number_of refusal } }
 {
     let head = heads::no_head();
     let none = Session {
@@ -105,7 +112,7 @@ fn no_pair(refusal: u32) -> PairOpened
         lists0: lists,
         session1: none,
         lists1: lists,
-        refusal,
+        refusal: refusal.number(),
     }
 }
 
@@ -131,17 +138,20 @@ pub fn open_within(
     ensures image1_after { (image0.new, image1.new) ≡ pair_found (opening_of First plan0 ranks0.now sizes0.now prefix0.now) (opening_of Second plan1 ranks1.now sizes1.now prefix1.now) image0.old table0.old image1.old table1.old budget0 budget1 }
     ensures table1_after { (table0.new, table1.new) ≡ pair_tables (opening_of First plan0 ranks0.now sizes0.now prefix0.now) (opening_of Second plan1 ranks1.now sizes1.now prefix1.now) image0.old table0.old image1.old table1.old }
 {
-    let needed = needs(
-        plan0, ranks0, sizes0, prefix0, plan1, ranks1, sizes1, prefix1,
-    );
-    let refusal = open_refusal(
-        needed,
+    if let Err(refusal) = test_opening(
+        plan0,
+        ranks0,
+        sizes0,
+        prefix0,
         image0.len() as u64,
         table0.len() as u64,
+        plan1,
+        ranks1,
+        sizes1,
+        prefix1,
         image1.len() as u64,
         table1.len() as u64,
-    );
-    if refusal != 0 {
+    ) {
         return no_pair(refusal);
     }
     let one = opening::begin(
@@ -164,15 +174,11 @@ pub fn open_within(
         table1,
         budget1,
     );
-    let session0 = one.session;
-    let lists0 = one.lists;
-    let session1 = two.session;
-    let lists1 = two.lists;
     PairOpened {
-        session0,
-        lists0,
-        session1,
-        lists1,
+        session0: one.session,
+        lists0: one.lists,
+        session1: two.session,
+        lists1: two.lists,
         refusal: 0,
     }
 }

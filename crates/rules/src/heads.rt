@@ -1,15 +1,14 @@
 // The rules for the head of a record, with its ranks and sizes.
-ghost use Rattle.std.specs.Prelude.{◌≡◌, length};
+ghost use Rattle.std.specs.Prelude.{◌≡◌};
 ghost use Rattle.format.specs.declared.head.Head.{Head};
-ghost use Rattle.format.specs.Record.{all_lists, head_sound, no_head};
+ghost use Rattle.format.specs.Record.{head_sound, no_head};
 
 use crate::limits;
 use format::head;
 use format::head::Head;
 
 // Whether the head, the ranks and the sizes of a record keep the rules, whatever they hold; library version and patch level may be any.
-pub fn head_ok(h: Head, lists: &[u64]) -> bool
-    requires { length lists.now ≡ all_lists }
+pub fn head_ok(h: Head, lists: &[u64; head::LISTS]) -> bool
     ensures { result ≡ head_sound h lists.now }
 {
     if 1 < h.order {
@@ -25,10 +24,12 @@ pub fn head_ok(h: Head, lists: &[u64]) -> bool
         return false;
     }
     let n = h.n as usize;
-    if !limits::ranks_ok(&lists[..head::SIZES], n) {
+    let ranks = &lists[..head::SIZES];
+    let sizes = &lists[head::SIZES..head::COUNTS];
+    if !limits::ranks_ok(&ranks[..n]) {
         return false;
     }
-    limits::sizes_ok(&lists[head::SIZES..head::COUNTS], n)
+    limits::sizes_ok(&sizes[..n])
 }
 
 // The head of the record of zeros that a refusal hands back.

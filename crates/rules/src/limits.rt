@@ -1,9 +1,10 @@
-// The rule for each number of document 01, "Numbers that bound the work", and for fileformat_version; a list is judged over its first n entries.
-ghost use Rattle.std.specs.Prelude.{◌≡◌, not, ◌&&◌, ◌<◌, ◌≤◌, eqb, pos, length, get_or};
-ghost use Rattle.lists.specs.Below.{first_not};
-ghost use Rattle.endian.specs.Signed.{within};
+// The rule for each number of document 01, "Numbers that bound the work", and for fileformat_version; a list is judged over all that it holds.
+ghost use Rattle.std.specs.Prelude.{◌≡◌, not, ◌&&◌, pos, length, get_or};
+ghost use Rattle.lists.specs.Below.{all_below};
+ghost use Rattle.endian.specs.Signed.{within, same_z};
 ghost use Rattle.format.specs.Limits.{max_size, format_rule, tasks_rule, blocksize_rule, planned_rule, maxchunks_rule, is_new, ranks_rule, rank_rule, sizes_rule};
 ghost use Rattle.format.specs.Meta2.{least_count};
+ghost use Rattle.rules.specs.First.{first_bad};
 
 use format::limit;
 
@@ -53,86 +54,62 @@ pub fn maxchunks_ok(maxchunks: u32) -> bool
     maxchunks <= limit::MAX_BLOCKS
 }
 
-// The first of n numbers that is not from lo to hi, and n where each is.
-pub fn first_outside(values: &[u64], n: usize, lo: u64, hi: u64) -> usize
-    requires { n ≤ length values.now }
-    ensures { result ≡ first_not n (λ i. within lo hi (pos (get_or values.now i 0))) }
+fn within(value: u64, lo: u64, hi: u64) -> bool
+    ensures { result ≡ within lo hi (pos value) }
 {
-    let mut i = 0;
-    while i < n {
-        if values[i] < lo {
-            return i;
+    lo <= value && value <= hi
+}
+
+// The first number that is not from lo to hi.
+pub fn first_outside(values: &[u64], lo: u64, hi: u64) -> Option<usize>
+    ensures { result ≡ first_bad (length values.now) (λ i. within lo hi (pos (get_or values.now i 0))) }
+{
+    values.iter().position(|value| !within(*value, lo, hi))
+}
+
+// Whether a number differs from each of those before it. It looks at all of them, which a machine does faster than to stop at the first.
+fn is_new(before: &[u64], value: u64) -> bool
+    ensures { result ≡ all_below (length before.now) (λ j. not (same_z (pos (get_or before.now j 0)) (pos value))) }
+{
+    before.iter().fold(true, |new, x| new & (*x != value))
+}
+
+// The first number that is one of those before it.
+fn first_repeat(values: &[u64]) -> Option<usize>
+    ensures { result ≡ first_bad (length values.now) (is_new (λ i. pos (get_or values.now i 0))) }
+{
+    for (i, value) in values.iter().enumerate() {
+        if !is_new(&values[..i], *value) {
+            return Some(i);
         }
-        if hi < values[i] {
-            return i;
-        }
-        i += 1;
     }
-    n
+    None
 }
 
-fn and_differ(before: bool, x: u64, y: u64) -> bool
-    ensures { result ≡ (before && not (eqb x y)) }
+// The first rank that breaks its rule.
+pub fn first_bad_rank(ranks: &[u64]) -> Option<usize>
+    ensures { result ≡ first_bad (length ranks.now) (rank_rule (λ i. pos (get_or ranks.now i 0))) }
 {
-    before & (x != y)
+    let outside = first_outside(ranks, 0, limit::MAX_RANK);
+    let inside = outside.unwrap_or(ranks.len());
+    first_repeat(&ranks[..inside]).or(outside)
 }
 
-// Whether number i differs from each before it. It looks at all of them, which a machine does faster than to stop at the first.
-fn is_new(values: &[u64], i: usize) -> bool
-    requires { i < length values.now }
-    ensures { result ≡ is_new (λ j. pos (get_or values.now j 0)) i }
+pub fn ranks_ok(ranks: &[u64]) -> bool
+    ensures { result ≡ ranks_rule (length ranks.now) (λ i. pos (get_or ranks.now i 0)) }
 {
-    let value = values[i];
-    let mut new = true;
-    let mut j = 0;
-    while j < i {
-        new = and_differ(new, values[j], value);
-        j += 1;
-    }
-    new
+    first_bad_rank(ranks).is_none()
 }
 
-// The first of n numbers that is one of those before it, and n where all are different.
-fn first_repeat(values: &[u64], n: usize) -> usize
-    requires { n ≤ length values.now }
-    ensures { result ≡ first_not n (is_new (λ i. pos (get_or values.now i 0))) }
+// The first size that breaks its rule.
+pub fn first_bad_size(sizes: &[u64]) -> Option<usize>
+    ensures { result ≡ first_bad (length sizes.now) (λ i. within 1 max_size (pos (get_or sizes.now i 0))) }
 {
-    let mut i = 0;
-    while i < n {
-        if !is_new(values, i) {
-            return i;
-        }
-        i += 1;
-    }
-    n
+    first_outside(sizes, 1, limit::MAX_SIZE)
 }
 
-// The first of n ranks that breaks its rule, and n where each keeps it.
-pub fn first_bad_rank(ranks: &[u64], n: usize) -> usize
-    requires { n ≤ length ranks.now }
-    ensures { result ≡ first_not n (rank_rule (λ i. pos (get_or ranks.now i 0))) }
+pub fn sizes_ok(sizes: &[u64]) -> bool
+    ensures { result ≡ sizes_rule (length sizes.now) (λ i. pos (get_or sizes.now i 0)) }
 {
-    first_repeat(ranks, first_outside(ranks, n, 0, limit::MAX_RANK))
-}
-
-pub fn ranks_ok(ranks: &[u64], n: usize) -> bool
-    requires { n ≤ length ranks.now }
-    ensures { result ≡ ranks_rule n (λ i. pos (get_or ranks.now i 0)) }
-{
-    first_bad_rank(ranks, n) == n
-}
-
-// The first of n sizes that breaks its rule, and n where each keeps it.
-pub fn first_bad_size(sizes: &[u64], n: usize) -> usize
-    requires { n ≤ length sizes.now }
-    ensures { result ≡ first_not n (λ i. within 1 max_size (pos (get_or sizes.now i 0))) }
-{
-    first_outside(sizes, n, 1, limit::MAX_SIZE)
-}
-
-pub fn sizes_ok(sizes: &[u64], n: usize) -> bool
-    requires { n ≤ length sizes.now }
-    ensures { result ≡ sizes_rule n (λ i. pos (get_or sizes.now i 0)) }
-{
-    first_bad_size(sizes, n) == n
+    first_bad_size(sizes).is_none()
 }

@@ -2,7 +2,7 @@
 #![tactic(auto)]
 
 use line::LINE;
-use std::io::Result;
+use std::io::{Error, Result};
 use std::process::ExitCode;
 use streams::input::INPUT;
 use streams::{input, output};
@@ -12,11 +12,11 @@ fn print_line(rt: &HostRuntime, input: &[u8]) -> Result<()> {
     let mut out = [0u8; LINE];
     let k = line::line(input, &mut out);
     out[k] = b'\n';
-    output::write_text(&mut rt.stdout(), &out[..k + 1])
+    output::write_text(&mut rt.stdout(), &out[..=k])
 }
 
 // What failed is said on standard error; that this cannot be written either changes nothing.
-fn fail(rt: &HostRuntime, what: &str, why: std::io::Error) -> ExitCode {
+fn fail(rt: &HostRuntime, what: &str, why: Error) -> ExitCode {
     let _ = output::fail(rt, what, why);
     ExitCode::FAILURE
 }
@@ -24,11 +24,10 @@ fn fail(rt: &HostRuntime, what: &str, why: std::io::Error) -> ExitCode {
 // Nothing is judged that was not read: a read that fails is said on standard error, and no line is printed.
 fn main(rt: HostRuntime) -> ExitCode {
     let mut buf = [0u8; INPUT];
-    let read = input::read_input(&mut rt.stdin(), &mut buf);
-    if let Some(e) = read.failed {
-        return fail(&rt, "sioncheck: standard input", e);
-    }
-    let count = read.count;
+    let count = match input::read_input(&mut rt.stdin(), &mut buf) {
+        Ok(count) => count,
+        Err(e) => return fail(&rt, "sioncheck: standard input", e),
+    };
     match print_line(&rt, &buf[..count]) {
         Ok(()) => ExitCode::SUCCESS,
         Err(e) => fail(&rt, "sioncheck: standard output", e),

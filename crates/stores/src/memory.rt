@@ -8,22 +8,14 @@ pub fn copy_in(part: &mut [u8], src: &[u8])
     requires { length src.now ≤ length part.old }
     ensures { part.new ≡ splice part.old 0 src.now }
 {
-    let mut i = 0;
-    while i < src.len() {
-        part[i] = src[i];
-        i += 1;
-    }
+    part[..src.len()].copy_from_slice(src);
 }
 
 // Zeros into the whole of part.
 pub fn clear(part: &mut [u8])
     ensures { part.new ≡ replicate (length part.old) 0 }
 {
-    let mut i = 0;
-    while i < part.len() {
-        part[i] = 0;
-        i += 1;
-    }
+    part.fill(0);
 }
 
 // What `copy_in` does, as far as the budget goes; what is left of it.

@@ -11,17 +11,11 @@ fn write_some<W: Write>(to: &mut W, part: &[u8]) -> Result<usize>
     ensures fits { IfOk result (λ n. n ≤ length part.now) }
     ensures bytes { IfOk result (λ n. Appends (W.contents to.old) (W.contents to.new) (take n part.now)) }
 {
-    let mut tries = AGAIN;
-    while 0 < tries {
+    'again: for _ in 0..AGAIN {
         match to.write(part) {
-            Ok(n) => return Ok(n),
-            Err(e) => {
-                if e.kind() != ErrorKind::Interrupted {
-                    return Err(e);
-                }
-            }
+            Err(e) if e.kind() == ErrorKind::Interrupted => {}
+            other => return other,
         }
-        tries -= 1;
     }
     Err(Error::from(ErrorKind::Interrupted))
 }
@@ -33,13 +27,12 @@ pub fn write_text<W: Write>(to: &mut W, text: &[u8]) -> Result<()>
     ensures empty { length text.now ≡ 0 → IsOk result }
     ensures bytes { OnOk result (Appends (W.contents to.old) (W.contents to.new) text.now) }
 {
-    let mut done = 0;
-    while done < text.len() {
-        let put = write_some(to, &text[done..])?;
-        if put == 0 {
-            return Err(Error::from(ErrorKind::WriteZero));
+    let mut rest = text;
+    while !rest.is_empty() {
+        match write_some(to, rest)? {
+            0 => return Err(Error::from(ErrorKind::WriteZero)),
+            n => rest = &rest[n..],
         }
-        done += put;
     }
     Ok(())
 }

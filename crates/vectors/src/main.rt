@@ -193,11 +193,7 @@ fn print_container(rt: &HostRuntime, image: &[u8]) {
 fn run(rt: &HostRuntime, name: &str) -> Result<()> {
     let mut buf = [0u8; INPUT];
     let mut file = File::open(rt, name)?;
-    let read = input::read_input(&mut file, &mut buf);
-    if let Some(e) = read.failed {
-        return Err(e);
-    }
-    let count = read.count;
+    let count = input::read_input(&mut file, &mut buf)?;
     print(rt, name.as_bytes());
     print(rt, b": ");
     print_line(rt, &buf[..count]);

@@ -1,6 +1,6 @@
 -- Each return by the tests that led there.
 use mathlib.Core.Path.{◌≡◌, sym, ap, ◌∙◌}
-use Prim.Native.Nat.{ℕ, ◌*◌, ◌<◌}
+use Prim.Native.Nat.{ℕ, ◌*◌}
 use native.Mathlib.Nat.{mul-le-mul}
 use native.Mathlib.Omega.{arith}
 use Rattle.std.proofs.lemmas.Result.{err_from_is_err_and}
@@ -26,7 +26,7 @@ returns-in_err-test_shape c =
     rw (p.1, p.2) (refused given _ (e ∙ sym (plan_shape given (omega (arith, e, some_number c.in_err-test_shape.field-0.0)))))
 
 pub test_numbers-requires : goal.test_numbers-requires
-test_numbers-requires c = omega (arith, shape_listed _ _ _ _ _ _ (sym c.in_ok-test_shape.ensures))
+test_numbers-requires c = sym (shape_listed _ _ _ _ _ _ (sym c.in_ok-test_shape.ensures))
 
 pub returns-in_err-test_numbers : goal.returns-in_err-test_numbers
 returns-in_err-test_numbers c =

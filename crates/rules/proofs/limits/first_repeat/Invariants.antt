@@ -1,5 +1,4 @@
--- The loop's invariant: every number passed is a new one. The measure is the numbers left.
-use Prim.Native.Nat.{◌≤◌, ◌-◌}
+-- The loop's invariant: every number passed is a new one.
 use mathlib.Core.Path.{◌≡◌}
 use mathlib.Core.Bool.{true}
 use lib.IntN.{pos}
@@ -9,7 +8,4 @@ use Rattle.format.specs.Limits.{is_new}
 use Rattle.rules.proofs.limits.first_repeat.Given as goal
 
 abbrev pub invariant-loop-i : goal.invariant-loop-i
-invariant-loop-i l = (l.i ≤ l.n) × (all_below l.i (is_new (λ j. pos (get_or l.values j 0))) ≡ true)
-
-abbrev pub decreases-loop-i : goal.decreases-loop-i
-decreases-loop-i l = l.n - l.i
+invariant-loop-i l = all_below l.i (is_new (λ j. pos (get_or l.values j 0))) ≡ true

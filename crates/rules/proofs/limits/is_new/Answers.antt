@@ -1,35 +1,16 @@
--- The loop's invariant: the answer so far is that of the numbers passed. The measure is the numbers left.
+-- The fold tests each number.
+use mathlib.Core.Path.{◌≡◌, ◌∙◌}
+use mathlib.Core.Bool.{Bool, true, not, ◌&&◌}
 use Prim.Native.Nat.{ℕ}
-use mathlib.Core.Path.{ap, sym, ◌∙◌}
-use mathlib.Core.Bool.{Bool, not, ◌&&◌}
-use native.Mathlib.Nat.{le_antisymm}
-use native.Mathlib.Numerals.{add-one}
-use borrow.Author.Rules.{rules}
 use lib.Dec.{eqb}
-use lib.IntN.{pos}
-use lib.ListN.{get_or}
-use Rattle.lists.specs.Below.{all_below}
-use Rattle.endian.specs.Signed.{same_z}
-use Rattle.lists.proofs.Below.{all_none}
-use Rattle.format.specs.Limits.{is_new}
+use Rattle.std.proofs.Common.{arith}
+use Rattle.std.proofs.lemmas.Grind.{common_steps}
+use Rattle.std.specs.Prelude.{fold}
+use Rattle.rules.proofs.First.{fold_all}
 use Rattle.rules.proofs.limits.is_new.Goals as goal
 
-pub loop-j-init : goal.loop-j-init
-loop-j-init c = (search rules, sym (all_none _))
-
-pub loop-j-preserved : goal.loop-j-preserved
-unfolding all_below
-loop-j-preserved c =
-    let l = c.loop-j in
-    let a = c.args in
-    let differs = not (eqb (get_or a.values.now l.j 0) (get_or a.values.now a.i 0)) in
-    (search rules, rw add-one (c.and_differ-new.ensures ∙ ap (λ (b : Bool). b && differs) l.invariant.1))
-
 pub returns : goal.returns
-unfolding is_new
 returns c =
     let a = c.args in
-    let l = c.loop-j in
-    l.invariant.1
-    ∙ ap (λ (j : ℕ). all_below j (λ k. not (same_z (pos (get_or a.values.now k 0)) (pos (get_or a.values.now a.i 0)))))
-    (le_antisymm l.invariant.0 c.loop-j-test.false)
+    let tested : c.fold.result ≡ fold (λ (new : Bool) (x : ℕ). new && not (eqb x a.value)) true a.before.now = grind (arith, common_steps) in
+    tested ∙ fold_all (λ x. not (eqb x a.value)) a.before.now

@@ -15,6 +15,6 @@ pub loop-done-preserved : goal.loop-done-preserved
 loop-done-preserved g c =
     let buf = c.loop-done.buf in
     let done = c.loop-done.done in
-    let read = c.in-Ok.ensures in
-    let more = front_more (take done buf) c.read_some.new.part _ done c.in-Ok.n (length-take-le done buf c.loop-done.invariant.0) read.fits in
+    let read = c.in_ok-n.ensures in
+    let more = front_more (take done buf) c.read_some.new.part _ done c.in_ok-n.n (length-take-le done buf c.loop-done.invariant.0) read.fits in
     (search rules, search rules, subst (Consumes _ _) (sym more) (Consumes-trans _ _ _ _ _ c.loop-done.invariant.2 read.bytes))

@@ -1,9 +1,6 @@
--- A write that is made again has appended nothing. The measure is the tries left.
+-- A write that is made again has appended nothing.
 use Rattle.std.specs.Io.KnownBytes.{Keeps}
 use Rattle.streams.proofs.output.write_some.Given as goal
 
-abbrev pub invariant-loop-tries : goal.invariant-loop-tries
-invariant-loop-tries g l = Keeps (g.W.Write.contents l.initial.to) (g.W.Write.contents l.to)
-
-abbrev pub decreases-loop-tries : goal.decreases-loop-tries
-decreases-loop-tries g l = l.tries
+abbrev pub invariant-again : goal.invariant-again
+invariant-again g l = Keeps (g.W.Write.contents l.initial.to) (g.W.Write.contents l.to)
