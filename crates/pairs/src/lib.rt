@@ -4,7 +4,8 @@
 #![tactic(auto)]
 
 ghost use Rattle.std.specs.Prelude.{◌≡◌};
-ghost use Rattle.pairs.specs.Answers.{pair_needed_of};
+ghost use Rattle.format.specs.declared.session.Session.{Session};
+ghost use Rattle.pairs.specs.Answers.{pair_needed_of, pair_closed_of};
 
 use format::fault::Fault;
 use format::head::LISTS;
@@ -47,7 +48,16 @@ pub struct PairOpened {
     pub refusal: u32,
 }
 
-// What closing a pair answers, with the length of each file.
+// What closing a pair answers: both sessions, marked closed, and the length of each file.
+#[derive(Clone, Copy)]
+pub struct PairFinished {
+    pub session0: Session,
+    pub session1: Session,
+    pub length0: u64,
+    pub length1: u64,
+}
+
+// The same for C, with the number of a refusal, and then the sessions as they were given.
 #[repr(C)]
 #[derive(Clone, Copy)]
 pub struct PairClosed {
@@ -99,6 +109,29 @@ impl From<Result<PairRoom, Refusal>> for PairNeeded {
                 cells0: 0,
                 image1: 0,
                 cells1: 0,
+            },
+        }
+    }
+}
+
+impl PairClosed {
+    pub fn of(s0: Session, s1: Session, answer: Result<PairFinished, Refusal>) -> PairClosed
+        ensures { result ≡ pair_closed_of s0 s1 answer }
+    {
+        match answer {
+            Ok(finished) => PairClosed {
+                refusal: 0,
+                session0: finished.session0,
+                session1: finished.session1,
+                length0: finished.length0,
+                length1: finished.length1,
+            },
+            Err(refusal) => PairClosed {
+                refusal: refusal.number(),
+                session0: s0,
+                session1: s1,
+                length0: 0,
+                length1: 0,
             },
         }
     }
