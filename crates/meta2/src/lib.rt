@@ -6,7 +6,7 @@ ghost use Rattle.lists.specs.Below.{list_below};
 ghost use Rattle.endian.specs.Number.{number_at};
 ghost use Rattle.endian.specs.Signed.{signed_at};
 ghost use Rattle.lists.specs.Splice.{splice};
-ghost use Rattle.format.specs.Limits.{max_blocks, max_tasks, Sound};
+ghost use Rattle.format.specs.Limits.{max_blocks, max_tasks};
 ghost use Rattle.format.specs.Layout.{capacity, meta2_length};
 ghost use Rattle.format.specs.declared.fault.Broken.{Broken};
 ghost use Rattle.format.specs.declared.refusal.Refusal.TheVariants.{BadMeta2};
@@ -22,6 +22,7 @@ use format::fault::{Broken, Field};
 use format::head::{Head, LISTS};
 use format::refusal::Refusal;
 use format::{head, limit};
+use layout::Layout;
 use rules::limits;
 
 // So many values are decoded at a time to be judged.
@@ -33,33 +34,33 @@ pub fn fill(table: &mut [i64], part: &[u8], at: usize, big: bool)
     ensures { table.new ≡ list_below (length table.old) (λ j. signed_at big 8 part.now (at + 8 * j)) }
 {
     for (j, cell) in table.iter_mut().enumerate() {
-        *cell = read::get_i64(part, at + 8 * j, big).value;
+        *cell = read::get::<i64>(part, at + 8 * j, big).value;
     }
 }
 
 // The values of META2, by the rule for cells, a tile of them at a time; with a list for what the chunks hold.
-fn values_held<'a>(
+fn values_held(
     holds: &mut [u64],
     part: &[u8],
     big: bool,
-    n: usize,
-    blocksize: u32,
-    sizes: &'a [u64],
-    counts: &'a [u64],
+    layout: &Layout<'_>,
+    counts: &[u64],
     m: u32,
 ) -> bool
-    requires sound { Sound blocksize n sizes.now × (m ≤ max_blocks) × (n ≤ length holds.old) }
-    requires n_in_bounds { (n ≤ length counts.now) × (meta2_length n m ≤ length part.now) }
-    ensures { result ≡ values_rule n m (λ i. capacity blocksize (get_or sizes.now i 0)) (λ i. get_or counts.now i 0) (value_field big part.now n) }
+    requires m_in_bounds { (m ≤ max_blocks) × (layout.now.n ≤ length holds.old) }
+    requires n_in_bounds { (layout.now.n ≤ length counts.now) × (meta2_length layout.now.n m ≤ length part.now) }
+    ensures { result ≡ values_rule layout.now.n m (λ i. capacity layout.now.blocksize (get_or layout.now.sizes.now i 0)) (λ i. get_or counts.now i 0) (value_field big part.now layout.now.n) }
 {
-    layout::chunks_hold(holds, sizes, n, blocksize);
+    layout.chunks_hold(holds);
+    let n = layout.n as usize;
+    let holds = &holds[..n];
     let cells = n * m as usize;
     let mut tile = [0i64; TILE];
     for j in (0..cells).step_by(TILE) {
         let w = TILE.min(cells - j);
         let values = &mut tile[..w];
         fill(values, part, 8 * n + 8 * j, big);
-        if !tables::span_ok(values, w, (j / n) as u64, j % n, n, holds, counts) {
+        if !tables::span_ok(values, (j / n) as u64, j % n, holds, counts) {
             return false;
         }
     }
@@ -67,25 +68,17 @@ fn values_held<'a>(
 }
 
 // The values of META2, by the rule for cells.
-fn values_ok<'a>(
-    part: &[u8],
-    big: bool,
-    n: usize,
-    blocksize: u32,
-    sizes: &'a [u64],
-    counts: &'a [u64],
-    m: u32,
-) -> bool
-    requires sound { Sound blocksize n sizes.now × (m ≤ max_blocks) }
-    requires n_in_bounds { (n ≤ length counts.now) × (meta2_length n m ≤ length part.now) }
-    ensures { result ≡ values_rule n m (λ i. capacity blocksize (get_or sizes.now i 0)) (λ i. get_or counts.now i 0) (value_field big part.now n) }
+fn values_ok(part: &[u8], big: bool, layout: &Layout<'_>, counts: &[u64], m: u32) -> bool
+    requires m_in_bounds { m ≤ max_blocks }
+    requires n_in_bounds { (layout.now.n ≤ length counts.now) × (meta2_length layout.now.n m ≤ length part.now) }
+    ensures { result ≡ values_rule layout.now.n m (λ i. capacity layout.now.blocksize (get_or layout.now.sizes.now i 0)) (λ i. get_or counts.now i 0) (value_field big part.now layout.now.n) }
 {
-    if n <= tables::FEW {
+    if layout.n as usize <= tables::FEW {
         let mut few = [0u64; tables::FEW];
-        return values_held(&mut few, part, big, n, blocksize, sizes, counts, m);
+        return values_held(&mut few, part, big, layout, counts, m);
     }
     let mut all = [0u64; limit::MAX_TASKS];
-    values_held(&mut all, part, big, n, blocksize, sizes, counts, m)
+    values_held(&mut all, part, big, layout, counts, m)
 }
 
 // Test 13 of the values of chunk k + 1, one by one, where the counts passed. The part starts at `at` of the image.
@@ -102,11 +95,12 @@ fn judge_row(
 {
     let big = h.order == 1;
     let n = h.n as usize;
+    let layout = Layout::of(h, lists);
     let row = 8 * n + 8 * (k as usize * n);
     for i in 0..n {
         let count = lists[head::COUNTS + i];
-        let holds = layout::chunk_holds(lists[head::SIZES + i], h.blocksize);
-        let value = read::get_i64(part, row + 8 * i, big);
+        let holds = layout.chunk_holds(i);
+        let value = read::get::<i64>(part, row + 8 * i, big);
         if !tables::value_ok(count, k as u64, holds, value.value) {
             let place = at + value.at as u64;
             return Err(faults::value(
@@ -144,7 +138,7 @@ fn bad_count(part: &[u8], at: u64, big: bool, i: usize, least: u64, maxchunks: u
     requires { (8 * i + 8 ≤ length part.now) × (i < max_tasks) × (least < 2 ^ 63) × (at + length part.now < 2 ^ 64) }
     ensures { result ≡ record { refusal = BadMeta2; fault = fault_of Kinds.count (suc i) 0 (at + 8 * i) (count_field big part.now i) (pos least) (pos maxchunks) } }
 {
-    let count = read::get_u64(part, 8 * i, big);
+    let count = read::get::<u64>(part, 8 * i, big);
     faults::number8(
         Refusal::BadMeta2,
         Field::Count,
@@ -169,13 +163,12 @@ fn judge_counts(
 {
     let big = h.order == 1;
     let n = h.n as usize;
-    let counts = &lists[head::COUNTS..head::LISTS];
+    let counts = &lists[head::COUNTS..][..n];
     let least = limits::least_count(h.format);
-    let count = limits::first_outside(counts, n, least, maxchunks as u64);
-    if count < n {
-        return Err(bad_count(part, at, big, count, least, maxchunks));
+    if let Some(i) = limits::first_outside(counts, least, maxchunks as u64) {
+        return Err(bad_count(part, at, big, i, least, maxchunks));
     }
-    let most = tables::greatest(counts, n);
+    let most = tables::greatest(counts);
     if most != maxchunks as u64 {
         let place = layout::last_at(n) as u64;
         return Err(faults::not_as_needed(
@@ -202,12 +195,12 @@ fn judge_read(
 {
     let big = h.order == 1;
     let n = h.n as usize;
-    let counts = &lists[head::COUNTS..head::LISTS];
-    if !tables::counts_ok(counts, n, h.format, maxchunks) {
+    let counts = &lists[head::COUNTS..][..n];
+    if !tables::counts_ok(counts, h.format, maxchunks) {
         return judge_counts(part, at, h, maxchunks, lists);
     }
-    let sizes = &lists[head::SIZES..head::COUNTS];
-    if !values_ok(part, big, n, h.blocksize, sizes, counts, maxchunks) {
+    let layout = Layout::of(h, lists);
+    if !values_ok(part, big, &layout, counts, maxchunks) {
         return judge_values(part, at, h, maxchunks, lists);
     }
     Ok(())
@@ -228,6 +221,6 @@ pub fn judge(
 {
     let big = h.order == 1;
     let n = h.n as usize;
-    meta1::read_stripe(lists, head::COUNTS, part, 0, n, big);
+    meta1::read_stripe(&mut lists[head::COUNTS..head::COUNTS + n], part, 0, big);
     judge_read(part, at, h, maxchunks, lists)
 }

@@ -21,7 +21,7 @@ pub loop-j-preserved : goal.loop-j-preserved
 loop-j-preserved c =
     let a = c.args in
     let l = c.loop-j in
-    let value = to_z-of_z {w = w64} (search rules) ∙ (λ x. (c.get_i64.ensures x).value) in
+    let value = to_z-of_z {w = w64} (search rules) ∙ (λ x. (c.get.ensures x).value) in
     rw (value, l.invariant) (splice_more a.table.now (λ i. signed_at a.big 8 a.part.now (a.at + 8 * i)) l.j (omega arith))
 
 pub returns : goal.returns

@@ -1,5 +1,5 @@
 -- The loop's invariant: every value passed keeps its rule.
-use mathlib.Core.Path.{◌≡◌, ap, sym, ◌∙◌}
+use mathlib.Core.Path.{◌≡◌, ap, ap₂, sym, ◌∙◌}
 use mathlib.Core.Bool.{cond, not}
 use mathlib.Core.List.{List, [], ◌∷◌}
 use Prim.Native.Nat.{ℕ, suc, ◌+◌, ◌*◌, ◌≤◌}
@@ -26,10 +26,10 @@ use Rattle.format.proofs.Chunks.{capacity_small, meta2_parts}
 use Rattle.format.proofs.Judged.{verdict_of, ask_none, ask_more, ask_fails}
 use Rattle.format.proofs.Refusals.{Numbered}
 use Rattle.format.proofs.Rules.{value_index_lt}
-use Rattle.format.proofs.Stripes.{size_at_place, count_at_place}
+use Rattle.format.proofs.Stripes.{count_at_place}
 use Rattle.format.proofs.Verdicts.{fails_first, passes_last}
 use Rattle.meta2.proofs.judge_row.Goals as goal
-use Rattle.meta2.proofs.judge_row.Goals.{After-chunk_holds-holds, After-get_i64-value, After-value_ok}
+use Rattle.meta2.proofs.judge_row.Goals.{After-chunk_holds-holds, After-get-value, After-value_ok}
 
 -- each value has one test, with a number
 numbered : (h : Head) (size : ℕ → ℕ) (maxchunks at : ℕ) (part : List ℕ) (k i : ℕ) → Numbered (value_test h size maxchunks at part k i ∷ [])
@@ -40,18 +40,14 @@ pub loop-i-init : goal.loop-i-init
 loop-i-init c = let a = c.args in ask_none _ (numbered a.h (size_of a.lists.now) a.maxchunks a.at a.part.now a.k)
 
 pub chunk_holds-holds-requires : goal.chunk_holds-holds-requires
-chunk_holds-holds-requires c =
-    let i = c.loop-i.i in
-    let sound = c.requires.0.there.sound in
-    (sound.block, rw (size_at_place c.args.lists.now i (omega (arith, sound.tasks, c.loop-i-test.true))) (sound_size sound i c.loop-i-test.true).1)
+chunk_holds-holds-requires c = rw c.of-layout.ensures.n c.loop-i-test.true
 
 -- what the chunk holds
 holds_is : (s : After-chunk_holds-holds) → let a = s.args in s.chunk_holds-holds.result ≡ holds a.h (size_of a.lists.now) s.loop-i.i
 unfolding holds
 holds_is s =
-    let a = s.args in
     s.chunk_holds-holds.ensures
-    ∙ ap (capacity a.h.blocksize) (size_at_place a.lists.now s.loop-i.i (omega (arith, s.requires.0.there.sound.tasks, s.loop-i-test.true)))
+    ∙ ap₂ (λ (b : ℕ) (sizes : List ℕ). capacity b (entry sizes s.loop-i.i)) s.of-layout.ensures.blocksize s.of-layout.ensures.sizes
 
 holds_small : (s : After-chunk_holds-holds) → s.chunk_holds-holds.result ≤ max_size
 unfolding holds
@@ -70,16 +66,16 @@ inside s =
       value_index_lt a.h.n a.maxchunks a.k s.loop-i.i s.loop-i-test.true s.requires.1,
     )
 
-pub get_i64-value-requires : goal.get_i64-value-requires
-get_i64-value-requires c = inside c
+pub get-value-requires : goal.get-value-requires
+get-value-requires c = inside c
 
 -- the value that is read, as it is handed on
-value_is : (s : After-get_i64-value) → let a = s.args in
-    to_z w64 (of_z w64 s.get_i64-value.result.value) ≡ value_field (is_big a.h) a.part.now a.h.n (value_index a.h.n a.k s.loop-i.i)
+value_is : (s : After-get-value) → let a = s.args in
+    to_z w64 (of_z w64 s.get-value.result.value) ≡ value_field (is_big a.h) a.part.now a.h.n (value_index a.h.n a.k s.loop-i.i)
 value_is s =
     let a = s.args in
     let stands : 8 * a.h.n + 8 * (a.k * a.h.n) + 8 * s.loop-i.i ≡ 8 * a.h.n + 8 * (a.k * a.h.n + s.loop-i.i) = omega arith in
-    to_z-of_z {w = w64} (search rules) ∙ (λ x. (s.get_i64-value.ensures x).value) ∙ ap (signed_at (is_big a.h) 8 a.part.now) stands
+    to_z-of_z {w = w64} (search rules) ∙ (λ x. (s.get-value.ensures x).value) ∙ ap (signed_at (is_big a.h) 8 a.part.now) stands
 
 pub value_ok-requires : goal.value_ok-requires
 value_ok-requires c =
@@ -97,13 +93,13 @@ tested : (s : After-value_ok) → let a = s.args in
 tested s =
     let k = s.args.k in
     let h : After-chunk_holds-holds = (goal.at.After-value_ok s).After-chunk_holds-holds in
-    let v : After-get_i64-value = (goal.at.After-value_ok s).After-get_i64-value in
+    let v : After-get-value = (goal.at.After-value_ok s).After-get-value in
     s.value_ok.ensures ∙ (λ x. value_rule (ltb k (count_is h x)) (holds_is h x) (value_is v x))
 
 pub overflow_add-place : goal.overflow_add-place
 overflow_add-place c =
     let s : After-chunk_holds-holds = (goal.at.overflow_add-place c).After-chunk_holds-holds in
-    let place : c.get_i64-value.result.at ≡ 8 * c.args.h.n + 8 * (c.args.k * c.args.h.n) + 8 * c.loop-i.i = λ x. (c.get_i64-value.ensures x).at in
+    let place : c.get-value.result.at ≡ 8 * c.args.h.n + 8 * (c.args.k * c.args.h.n) + 8 * c.loop-i.i = λ x. (c.get-value.ensures x).at in
     omega (arith, place, inside s, c.requires.0.there.ends)
 
 pub value-requires : goal.value-requires
@@ -117,10 +113,10 @@ returns-then-not-value_ok c =
     let a = c.args in
     let i = c.loop-i.i in
     let h : After-chunk_holds-holds = (goal.at.returns-then-not-value_ok c).After-chunk_holds-holds in
-    let v : After-get_i64-value = (goal.at.returns-then-not-value_ok c).After-get_i64-value in
+    let v : After-get-value = (goal.at.returns-then-not-value_ok c).After-get-value in
     let s : After-value_ok = (goal.at.returns-then-not-value_ok c).After-value_ok in
-    let place : a.at + c.get_i64-value.result.at ≡ a.at + 8 * a.h.n + 8 * (a.k * a.h.n + i) =
-    (λ x. a.at + (c.get_i64-value.ensures x).at) ∙ omega arith in
+    let place : a.at + c.get-value.result.at ≡ a.at + 8 * a.h.n + 8 * (a.k * a.h.n + i) =
+    (λ x. a.at + (c.get-value.ensures x).at) ∙ omega arith in
     let task : i + 1 ≡ suc i = omega arith in
     let chunk : a.k + 1 ≡ suc a.k = omega arith in
     let broken = (λ x. verdict_of (c.value.ensures x))

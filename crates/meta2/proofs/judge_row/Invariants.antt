@@ -7,4 +7,4 @@ use Rattle.format.specs.Judge.{value_test}
 use Rattle.meta2.proofs.judge_row.Given as goal
 
 abbrev pub invariant-loop-i : goal.invariant-loop-i
-invariant-loop-i l = passed ≡ verdict (list_below l.i (value_test l.h (size_of l.lists) l.maxchunks l.at l.part l.k))
+invariant-loop-i l = passed ≡ verdict (list_below l.i (value_test l.fn.h (size_of l.lists) l.maxchunks l.at l.part l.k))
