@@ -34,8 +34,8 @@ pub fn meta2(
 {
     let tasks = n as usize;
     let cells = tasks * maxchunks as usize;
-    let left = runs::put_list(image, at, counts, tasks, big, budget);
-    runs::put_cells(image, at + 8 * tasks, table, cells, big, left)
+    let left = runs::put_list(image, at, &counts[..tasks], big, budget);
+    runs::put_list(image, at + 8 * tasks, &table[..cells], big, left)
 }
 
 // META1's last two fields, which closing fills: maxchunks, then start_of_varheader.
@@ -52,33 +52,32 @@ pub fn last_fields(
 {
     let at = layout::last_at(n as usize);
     let mut fields = [0; 12];
-    numbers::put_u32(&mut fields, 0, big, maxchunks);
-    numbers::put_u64(&mut fields, 4, big, start);
+    numbers::put(&mut fields, 0, big, maxchunks);
+    numbers::put(&mut fields, 4, big, start);
     memory::copy_within(&mut image[at..], &fields, budget)
 }
 
 // The magic, the order and the versions, from 0 on.
-fn put_versions(fields: &mut [u8], big: bool, version: i32, patch: i32, format: u32)
+fn put_versions(fields: &mut [u8], h: Head, big: bool)
     requires { 20 ≤ length fields.old }
-    ensures { fields.new ≡ splice fields.old 0 (versions big version patch format) }
+    ensures { fields.new ≡ splice fields.old 0 (versions big h.version h.patch h.format) }
 {
-    let magic = field::MAGIC;
-    memory::copy_in(fields, &magic);
-    numbers::put_u32(fields, field::ORDER_AT, big, field::ORDER);
-    numbers::put_i32(fields, field::VERSION_AT, big, version);
-    numbers::put_i32(fields, field::PATCH_AT, big, patch);
-    numbers::put_u32(fields, field::FORMAT_AT, big, format);
+    memory::copy_in(fields, &field::MAGIC);
+    numbers::put(fields, field::ORDER_AT, big, field::ORDER);
+    numbers::put(fields, field::VERSION_AT, big, h.version);
+    numbers::put(fields, field::PATCH_AT, big, h.patch);
+    numbers::put(fields, field::FORMAT_AT, big, h.format);
 }
 
 // The blocksize, the tasks, nfiles, filenumber and two flags of zeros, from 20 on.
-fn put_shape(fields: &mut [u8], big: bool, blocksize: u32, n: u32, files: u32, file: u32)
+fn put_shape(fields: &mut [u8], h: Head, big: bool)
     requires { 52 ≤ length fields.old }
-    ensures { fields.new ≡ splice fields.old 20 (shape big blocksize n files file) }
+    ensures { fields.new ≡ splice fields.old 20 (shape big h.blocksize h.n h.files h.file) }
 {
-    numbers::put_u32(fields, field::BLOCKSIZE_AT, big, blocksize);
-    numbers::put_u32(fields, field::TASKS_AT, big, n);
-    numbers::put_u32(fields, field::FILES_AT, big, files);
-    numbers::put_u32(fields, field::FILE_NUMBER_AT, big, file);
+    numbers::put(fields, field::BLOCKSIZE_AT, big, h.blocksize);
+    numbers::put(fields, field::TASKS_AT, big, h.n);
+    numbers::put(fields, field::FILES_AT, big, h.files);
+    numbers::put(fields, field::FILE_NUMBER_AT, big, h.file);
     memory::clear(&mut fields[field::FLAGS_AT..field::PREFIX_AT]);
 }
 
@@ -87,8 +86,8 @@ pub fn first_fields(h: Head, big: bool) -> [u8; 52]
     ensures { result ≡ first_fields big h }
 {
     let mut fields = [0; field::PREFIX_AT];
-    put_versions(&mut fields, big, h.version, h.patch, h.format);
-    put_shape(&mut fields, big, h.blocksize, h.n, h.files, h.file);
+    put_versions(&mut fields, h, big);
+    put_shape(&mut fields, h, big);
     fields
 }
 
@@ -128,15 +127,10 @@ fn put_rest(image: &mut [u8], h: Head, lists: &[u64], prefix: &[u8], budget: u64
     let last = layout::last_at(n);
     let end = layout::data_start(h.n, h.blocksize) as usize;
     let left = put_fixed(image, h, big, prefix, budget);
-    let left = runs::put_list(image, field::RANKS_AT, &lists[..head::SIZES], n, big, left);
-    let left = runs::put_list(
-        image,
-        layout::sizes_at(n),
-        &lists[head::SIZES..head::COUNTS],
-        n,
-        big,
-        left,
-    );
+    let ranks = &lists[..head::SIZES];
+    let sizes = &lists[head::SIZES..head::COUNTS];
+    let left = runs::put_list(image, field::RANKS_AT, &ranks[..n], big, left);
+    let left = runs::put_list(image, layout::sizes_at(n), &sizes[..n], big, left);
     runs::put_zeros(image, last, end, left)
 }
 

@@ -33,6 +33,8 @@ pub trait Number: Copy {
     fn to_bytes(self, big: bool) -> Self::Bytes
         ensures { Self.Bytes.items result ≡ bytes_of big self };
 
+    ghost wide: { 0 < WIDTH };
+
     ghost length_bytes: { (big : Bool) (v : Self) → length (bytes_of big v) ≡ WIDTH };
 
     ghost reads_back: { (big : Bool) (v : Self) → fits v → value_of big (bytes_of big v) ≡ v };
@@ -50,6 +52,8 @@ impl Number for u32 {
     ghost bytes_of = { λ big v. digits big 4 v };
 
     ghost fits = { λ v. v < 2 ^ 32 };
+
+    ghost wide = { lit< tt };
 
     ghost length_bytes = { λ big v. length_digits big 4 v };
 
@@ -86,6 +90,8 @@ impl Number for u64 {
 
     ghost fits = { λ v. v < 2 ^ 64 };
 
+    ghost wide = { lit< tt };
+
     ghost length_bytes = { λ big v. length_digits big 8 v };
 
     ghost reads_back = { λ big v h. number_digits big 8 v h };
@@ -121,6 +127,8 @@ impl Number for i32 {
 
     ghost fits = { λ z. FitsSigned w32 z };
 
+    ghost wide = { lit< tt };
+
     ghost length_bytes = { λ big z. length_digits big 4 _ };
 
     ghost reads_back = { λ big z h. signed_number_digits big 4 z (lit< tt) h.sfits };
@@ -146,6 +154,8 @@ impl Number for i64 {
     ghost bytes_of = { λ big z. signed_digits big 8 z };
 
     ghost fits = { λ z. FitsSigned w64 z };
+
+    ghost wide = { lit< tt };
 
     ghost length_bytes = { λ big z. length_digits big 8 _ };
 

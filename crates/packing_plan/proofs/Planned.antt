@@ -1,17 +1,19 @@
 -- Laws of a plan: what stands in a list into which n numbers were put, and what the tests of packing and its length are by the totals.
 use mathlib.Core.Path.{◌≡◌, ap, sym, ◌∙◌}
 use mathlib.Core.Bool.{Bool, true, false, cond, not}
-use mathlib.Core.List.{List}
+use mathlib.Core.List.{List, ◌++◌}
 use Prim.Native.Nat.{ℕ, ◌≤◌, ◌<◌, max}
+use native.Mathlib.Nat.{le_antisymm, le_of_eq}
 use native.Mathlib.Omega.{arith}
 use lib.Dec.{ltb, eqb}
 use lib.IntN.{pos}
-use lib.ListN.{length, get_or}
+use lib.ListN.{length, get_or, take, drop}
+use lib.Seq.{length-take-le}
 use borrow.Author.Tests.{ltb-false, le-ltb, not-true}
 use Rattle.lists.specs.Below.{all_below, greatest_below, list_below}
 use Rattle.lists.specs.Splice.{splice}
 use Rattle.lists.proofs.Below.{all_at, all_of, all_cong, greatest_le, greatest_cong, length_list}
-use Rattle.lists.proofs.Splice.{length_splice, splice_list}
+use Rattle.lists.proofs.Splice.{length_splice, splice_list, splice_part}
 use Rattle.endian.specs.Signed.{within}
 use Rattle.endian.proofs.Signed.{within_holds}
 use Rattle.format.specs.Limits.{max_tasks, max_size, blocksize_rule, sizes_rule, Sound}
@@ -26,6 +28,15 @@ use Rattle.format.proofs.LoadedRecords.{loaded_numbered}
 use Rattle.format.proofs.Stream.{counted}
 use Rattle.packs.specs.Pack
 use Rattle.packs.proofs.Packed.{total_small}
+
+-- ---- the first n elements of a list, each put in its turn
+
+-- after the last turn they are those of the whole list
+pub put_whole : {A : Type 0} (xs : List A) (n i : ℕ) (f : ℕ → A) {part : List A} → n ≤ length xs → i ≤ length (take n xs) → length (take n xs) ≤ i
+    → part ≡ splice (take n xs) 0 (list_below i f) → part ++ drop n xs ≡ splice xs 0 (list_below n f)
+put_whole xs n i f fits below past e =
+    let last : i ≡ n = le_antisymm below past ∙ length-take-le n xs fits in
+    splice_part xs 0 n (list_below n f) _ (le_of_eq (length_list f n)) (omega arith) (rw last at e)
 
 -- ---- a list into which n numbers were put
 

@@ -30,10 +30,8 @@ pub fn put_totals(totals: &mut [u64], l: Loaded, lists: &[u64], image: &[u8], ta
     ensures { totals.new ≡ splice totals.old 0 (list_below l.head.n (total (container_of Single l lists.now image.now table.now))) }
 {
     let n = l.head.n as usize;
-    let mut i = 0;
-    while i < n {
-        totals[i] = reads::total_of(l, lists, image, table, i as u64 + 1);
-        i += 1;
+    for (i, total) in totals[..n].iter_mut().enumerate() {
+        *total = reads::total_of(l, lists, image, table, i as u64 + 1);
     }
 }
 
@@ -45,22 +43,13 @@ pub fn totals_ok(totals: &[u64], n: usize) -> bool
     tables::greatest(totals, n) <= limit::MAX_SIZE
 }
 
-// The same number, and 1 for 0.
-fn at_least_one(x: u64) -> u64
-    ensures { result ≡ max 1 x }
-{
-    if x == 0 { 1 } else { x }
-}
-
 // The size of each of n tasks: its total, at least 1.
 pub fn put_sizes(sizes: &mut [u64], totals: &[u64], n: usize)
     requires { (n ≤ length sizes.old) × (n ≤ length totals.now) }
     ensures { sizes.new ≡ splice sizes.old 0 (list_below n (λ i. max 1 (get_or totals.now i 0))) }
 {
-    let mut i = 0;
-    while i < n {
-        sizes[i] = at_least_one(totals[i]);
-        i += 1;
+    for (i, size) in sizes[..n].iter_mut().enumerate() {
+        *size = totals[i].max(1);
     }
 }
 
@@ -77,10 +66,8 @@ pub fn put_counts(counts: &mut [u64], totals: &[u64], n: usize, format: u32)
     ensures { counts.new ≡ splice counts.old 0 (list_below n (λ i. cond (eqb (get_or totals.now i 0) 0) (least_count format) 1)) }
 {
     let least = limits::least_count(format);
-    let mut i = 0;
-    while i < n {
-        counts[i] = count_of(totals[i], least);
-        i += 1;
+    for (i, count) in counts[..n].iter_mut().enumerate() {
+        *count = count_of(totals[i], least);
     }
 }
 
@@ -101,10 +88,8 @@ pub fn put_cells(cells: &mut [i64], totals: &[u64], counts: &[u64], n: usize)
     requires i_value { all_below n (λ i. not (ltb max_size (get_or totals.now i 0))) ≡ true }
     ensures { cells.new ≡ splice cells.old 0 (list_below n (λ i. cond (eqb (get_or counts.now i 0) 0) unused (pos (get_or totals.now i 0)))) }
 {
-    let mut i = 0;
-    while i < n {
-        cells[i] = first_cell(totals[i], counts[i]);
-        i += 1;
+    for (i, cell) in cells[..n].iter_mut().enumerate() {
+        *cell = first_cell(totals[i], counts[i]);
     }
 }
 

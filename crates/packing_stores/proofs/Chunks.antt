@@ -3,10 +3,10 @@ use mathlib.Core.Path.{◌≡◌, sym, ap, ◌∙◌}
 use mathlib.Core.List.{List}
 use Prim.Native.Nat.{ℕ, ◌+◌, ◌≤◌, ◌<◌}
 use native.Mathlib.Omega.{arith}
-use lib.ListN.{length, take, get_or, length-take}
+use lib.ListN.{length, take, get_or}
 use lib.Seq.{get_or-take}
 use Rattle.lists.specs.Below.{join_below, list_below}
-use Rattle.lists.proofs.Below.{sum_step, length_joined, length_list, get_or_list}
+use Rattle.lists.proofs.Below.{sum_step, length_joined, get_or_list}
 use Rattle.format.specs.Limits.{max_size}
 use Rattle.format.specs.Layout.{globalskip, extended_before, capacity}
 use Rattle.format.specs.Refusals.{first_failing}
@@ -20,9 +20,6 @@ use Rattle.packs.proofs.Packed.{passed, total_small, chunk_long}
 module _ (f : ℕ → ℕ) (n : ℕ) (xs : List ℕ) (e : take n xs ≡ list_below n f) where
   pub begins_at : (i : ℕ) → i < n → get_or xs i 0 ≡ f i
   begins_at i l = sym (get_or-take n xs i 0 l) ∙ ap (λ (ys : List ℕ). get_or ys i 0) e ∙ get_or_list f n i 0 l
-
-  pub begins_long : n ≤ length xs
-  begins_long = omega (arith, ap length e, length-take n xs, length_list f n)
 
 module _ (c : Container) (e : first_failing (pack_tests c) ≡ 0) where
   pub task_readable : length c.lists ≡ all_lists → (i : ℕ) → i < c.loaded.head.n → Readable c (i + 1)

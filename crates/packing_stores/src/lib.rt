@@ -42,12 +42,10 @@ pub fn put_stream(
     let count = lists[head::COUNTS + i];
     let mut place = at;
     let mut left = budget;
-    let mut k = 0;
-    while k < count {
+    for k in 0..count {
         let part = chunks::chunk_part(l, lists, image, table, task, k + 1);
         left = memory::copy_within(&mut second[place..], part, left);
         place += part.len();
-        k += 1;
     }
     left
 }
@@ -92,13 +90,11 @@ pub fn put_chunks(
     let blocksize = l.head.blocksize;
     let mut place = layout::data_start(l.head.n, blocksize) as usize;
     let mut left = budget;
-    let mut i = 0;
-    while i < n {
-        let holds = layout::chunk_holds(sizes[i], blocksize) as usize;
+    for (i, size) in sizes[..n].iter().enumerate() {
+        let holds = layout::chunk_holds(*size, blocksize) as usize;
         let task = i as u64 + 1;
         left = put_chunk(second, place, holds, l, lists, image, table, task, left);
         place += holds;
-        i += 1;
     }
     left
 }

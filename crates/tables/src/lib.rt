@@ -1,10 +1,10 @@
 // META2's rule: counts judged by it, and the cells of a table, many at a time and without a branch; the bytes that a cell says were written, and back.
 #![tactic(auto)]
 
-ghost use Rattle.std.specs.Prelude.{◌≡◌, ◌+◌, ◌*◌, ◌^◌, ◌<◌, ◌≤◌, min, ◌&&◌, ltb, length, get_or, pos, if◌then◌else◌, nat_le, nat_lt, slice_index, slice_index_or};
+ghost use Rattle.std.specs.Prelude.{◌≡◌, ◌+◌, ◌*◌, ◌^◌, ◌<◌, ◌≤◌, ◌&&◌, ltb, length, get_or, pos, if◌then◌else◌, nat_le, nat_lt, slice_index, slice_index_or};
 ghost use Rattle.lists.specs.Below.{all_below, greatest_below};
 ghost use Rattle.endian.specs.Signed.{natural};
-ghost use Rattle.format.specs.Limits.{max_blocks, max_size, Sound};
+ghost use Rattle.format.specs.Limits.{max_blocks, max_size};
 ghost use Rattle.format.specs.Layout.{capacity};
 ghost use Rattle.format.specs.Meta2.{counts_rule, value_rule, values_rule};
 ghost use Rattle.format.specs.Record.{cell};
@@ -12,6 +12,7 @@ ghost use Rattle.tables.specs.Spans.{rule_at, HoldsListed};
 
 use endian::sign;
 use format::limit;
+use layout::Layout;
 use rules::limits;
 
 // The top bit alone.
@@ -21,31 +22,20 @@ const TOP: u64 = 0x8000_0000_0000_0000;
 // short one.
 pub const FEW: usize = 16;
 
-// The greatest of the first n, 0 where n is 0.
-pub fn greatest(values: &[u64], n: usize) -> u64
-    requires { n ≤ length values.now }
-    ensures { result ≡ greatest_below n (λ i. slice_index values.now i) }
+// The greatest number, 0 where there is none.
+pub fn greatest(values: &[u64]) -> u64
+    ensures { result ≡ greatest_below (length values.now) (λ i. slice_index values.now i) }
 {
-    let mut most = 0;
-    let mut i = 0;
-    while i < n {
-        if most < values[i] {
-            most = values[i];
-        }
-        i += 1;
-    }
-    most
+    values.iter().fold(0, |most, value| most.max(*value))
 }
 
 // Whether each count is from the format's least one to maxchunks, and the greatest is maxchunks.
-pub fn counts_ok(counts: &[u64], n: usize, format: u32, maxchunks: u32) -> bool
-    requires { n ≤ length counts.now }
-    ensures { result ≡ counts_rule format n maxchunks (λ i. pos (slice_index counts.now i)) }
+pub fn counts_ok(counts: &[u64], format: u32, maxchunks: u32) -> bool
+    ensures { result ≡ counts_rule format (length counts.now) maxchunks (λ i. pos (slice_index counts.now i)) }
 {
-    if limits::first_outside(counts, n, limits::least_count(format), maxchunks as u64) < n {
-        return false;
-    }
-    greatest(counts, n) == maxchunks as u64
+    let least = limits::least_count(format);
+    let most = maxchunks as u64;
+    limits::first_outside(counts, least, most).is_none() && greatest(counts) == most
 }
 
 // `bad`, with its top bit set if bits is over holds: bits, or the difference, then has that bit.
@@ -85,63 +75,37 @@ pub fn value_ok(count: u64, k: u64, holds: u64, value: i64) -> bool
     value_bad(0, count, k, holds, value) < TOP
 }
 
-// The cells of chunk k + 1, which stand from `at` on, one for each of n tasks, of which the first is task `first` + 1. What a chunk of each
-// task holds is listed, as are the counts.
-fn row_ok<'a>(
-    cells: &[i64],
-    at: usize,
-    k: u64,
-    first: usize,
-    n: usize,
-    holds: &'a [u64],
-    counts: &'a [u64],
-) -> bool
-    requires holds_listed { HoldsListed (first + n) holds.now × (k < 2 ^ 63) }
-    requires n_in_bounds { (first + n ≤ length counts.now) × (at + n ≤ length cells.now) }
-    ensures { result ≡ all_below n (λ i. value_rule (nat_lt k (slice_index counts.now (first + i))) (slice_index holds.now (first + i)) (slice_index_or cells.now (at + i) (pos 0))) }
+// The cells of chunk k + 1, one for each of some tasks. What a chunk of each of these tasks holds is listed from the list's start on, and so are
+// their counts.
+fn row_ok(cells: &[i64], k: u64, holds: &[u64], counts: &[u64]) -> bool
+    requires holds_listed { HoldsListed (length cells.now) holds.now × (k < 2 ^ 63) }
+    requires counts_listed { length cells.now ≤ length counts.now }
+    ensures { result ≡ all_below (length cells.now) (λ i. value_rule (nat_lt k (slice_index counts.now i)) (slice_index holds.now i) (slice_index_or cells.now i (pos 0))) }
 {
     let mut bad = 0;
-    let mut i = 0;
-    while i < n {
-        let task = first + i;
-        bad = value_bad(bad, counts[task], k, holds[task], cells[at + i]);
-        i += 1;
+    for (i, cell) in cells.iter().enumerate() {
+        bad = value_bad(bad, counts[i], k, holds[i], *cell);
     }
     bad < TOP
 }
 
-pub fn least(a: usize, b: usize) -> usize
-    ensures { result ≡ min a b }
+// Cells which stand one after the other: those of chunk k + 1 from task `first` + 1 on, and then those of the chunks that follow. What a chunk
+// of each task holds is listed, and so are the counts.
+pub fn span_ok(cells: &[i64], k: u64, first: usize, holds: &[u64], counts: &[u64]) -> bool
+    requires holds_listed { HoldsListed (length holds.now) holds.now × (length holds.now ≤ length counts.now) }
+    requires cells_in_bounds { (k + length cells.now < 2 ^ 63) × (0 < length cells.now → first < length holds.now) }
+    ensures { result ≡ all_below (length cells.now) (λ t. rule_at (length holds.now) holds.now counts.now (k * length holds.now + first + t) (slice_index_or cells.now t (pos 0))) }
 {
-    if a < b {
-        return a;
-    }
-    b
-}
-
-// So many cells, which stand one after the other: those of chunk k + 1 from task `first` + 1 on, and then those of the chunks that follow.
-pub fn span_ok<'a>(
-    cells: &[i64],
-    count: usize,
-    k: u64,
-    first: usize,
-    n: usize,
-    holds: &'a [u64],
-    counts: &'a [u64],
-) -> bool
-    requires holds_listed { HoldsListed n holds.now × (n ≤ length counts.now) }
-    requires count_in_bounds { (count ≤ length cells.now) × (k + count < 2 ^ 63) × (0 < count → first < n) }
-    ensures { result ≡ all_below count (λ t. rule_at n holds.now counts.now (k * n + first + t) (slice_index_or cells.now t (pos 0))) }
-{
-    let mut at = 0;
+    let mut rest = cells;
     let mut row = k;
     let mut i = first;
-    while at < count {
-        let w = least(n - i, count - at);
-        if !row_ok(cells, at, row, i, w, holds, counts) {
+    while !rest.is_empty() {
+        let w = rest.len().min(holds.len() - i);
+        let (front, later) = rest.split_at(w);
+        if !row_ok(front, row, &holds[i..], &counts[i..]) {
             return false;
         }
-        at += w;
+        rest = later;
         row += 1;
         i = 0;
     }
@@ -149,42 +113,28 @@ pub fn span_ok<'a>(
 }
 
 // The cells of all m chunks of a record, by META2's rule, with a list for what the chunks of its tasks hold.
-fn cells_held<'a>(
-    holds: &mut [u64],
-    table: &[i64],
-    n: usize,
-    blocksize: u32,
-    sizes: &'a [u64],
-    counts: &'a [u64],
-    m: u32,
-) -> bool
-    requires sound { Sound blocksize n sizes.now × (m ≤ max_blocks) × (n ≤ length holds.old) }
-    requires n_in_bounds { (n ≤ length counts.now) × (n * m ≤ length table.now) }
-    ensures { result ≡ values_rule n m (λ i. capacity blocksize (slice_index sizes.now i)) (λ i. slice_index counts.now i) (λ j. get_or table.now j (pos 0)) }
+fn cells_held(holds: &mut [u64], table: &[i64], layout: &Layout<'_>, counts: &[u64], m: u32) -> bool
+    requires m_in_bounds { (m ≤ max_blocks) × (layout.now.n ≤ length holds.old) }
+    requires n_in_bounds { (layout.now.n ≤ length counts.now) × (layout.now.n * m ≤ length table.now) }
+    ensures { result ≡ values_rule layout.now.n m (λ i. capacity layout.now.blocksize (slice_index layout.now.sizes.now i)) (λ i. slice_index counts.now i) (λ j. get_or table.now j (pos 0)) }
 {
-    layout::chunks_hold(holds, sizes, n, blocksize);
-    span_ok(table, n * m as usize, 0, 0, n, holds, counts)
+    layout.chunks_hold(holds);
+    let n = layout.n as usize;
+    span_ok(&table[..n * m as usize], 0, 0, &holds[..n], counts)
 }
 
 // The cells of all m chunks of a record, by META2's rule.
-pub fn cells_ok<'a>(
-    table: &[i64],
-    n: usize,
-    blocksize: u32,
-    sizes: &'a [u64],
-    counts: &'a [u64],
-    m: u32,
-) -> bool
-    requires sound { Sound blocksize n sizes.now × (m ≤ max_blocks) }
-    requires n_in_bounds { (n ≤ length counts.now) × (n * m ≤ length table.now) }
-    ensures { result ≡ values_rule n m (λ i. capacity blocksize (slice_index sizes.now i)) (λ i. slice_index counts.now i) (λ j. get_or table.now j (pos 0)) }
+pub fn cells_ok(table: &[i64], layout: &Layout<'_>, counts: &[u64], m: u32) -> bool
+    requires m_in_bounds { m ≤ max_blocks }
+    requires n_in_bounds { (layout.now.n ≤ length counts.now) × (layout.now.n * m ≤ length table.now) }
+    ensures { result ≡ values_rule layout.now.n m (λ i. capacity layout.now.blocksize (slice_index layout.now.sizes.now i)) (λ i. slice_index counts.now i) (λ j. get_or table.now j (pos 0)) }
 {
-    if n <= FEW {
+    if layout.n as usize <= FEW {
         let mut few = [0u64; FEW];
-        return cells_held(&mut few, table, n, blocksize, sizes, counts, m);
+        return cells_held(&mut few, table, layout, counts, m);
     }
     let mut all = [0u64; limit::MAX_TASKS];
-    cells_held(&mut all, table, n, blocksize, sizes, counts, m)
+    cells_held(&mut all, table, layout, counts, m)
 }
 
 // The bytes that a used cell says were written.
@@ -192,11 +142,7 @@ pub fn written(table: &[i64], at: usize) -> u64
     requires { at < length table.now }
     ensures { result ≡ natural (cell table.now at) }
 {
-    let bytes = table[at];
-    if bytes < 0 {
-        return 0;
-    }
-    bytes as u64
+    table[at].max(0) as u64
 }
 
 // The cell that says so many bytes were written.

@@ -22,7 +22,7 @@ slice_bounds-copy_within-count c = omega (arith, c.last_at-at.ensures, c.require
 
 pub copy_within-requires : goal.copy_within-requires
 unfolding meta1_end
-copy_within-requires c = simp (length-take, length-drop) (omega (arith, c.last_at-at.ensures, c.requires, c.put_u64.auto.s))
+copy_within-requires c = simp (length-take, length-drop) (omega (arith, c.last_at-at.ensures, c.requires, c.put-2.auto.s))
 
 pub returns : goal.returns
 unfolding last_fields meta1_end
@@ -30,8 +30,8 @@ returns c =
     let a = c.args in
     let xs = a.image.now in
     let zeros = replicate {A = ℕ} 12 0 in
-    let maxchunks = put_first zeros 0 (digits a.big 4 a.maxchunks) 4 (length_digits a.big 4 _) c.put_u32.ensures in
-    let both = (put_then zeros 0 _ (digits a.big 8 a.start) 8 maxchunks (length_digits a.big 8 _) c.put_u64.ensures (omega arith)).0 in
+    let maxchunks = put_first zeros 0 (digits a.big 4 a.maxchunks) 4 (length_digits a.big 4 _) c.put.ensures in
+    let both = (put_then zeros 0 _ (digits a.big 8 a.start) 8 maxchunks (length_digits a.big 8 _) c.put-2.ensures (omega arith)).0 in
     let long = length_last a.big a.maxchunks a.start in
     let made = both ∙ splice_over zeros (last_fields a.big a.maxchunks a.start) long in
     let at = c.last_at-at.result in

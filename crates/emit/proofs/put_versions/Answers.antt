@@ -1,6 +1,7 @@
 -- Five stores, each where the last ended.
 use mathlib.Core.Path.{refl, ◌∙◌}
 use native.Mathlib.Omega.{arith}
+use borrow.Author.Rules.{rules}
 use mir.Syntax.{w32}
 use Rattle.endian.specs.Number.{digits}
 use Rattle.endian.specs.Signed.{signed_digits}
@@ -18,11 +19,11 @@ returns c =
     let xs = a.fields.now in
     let wide = length_digits a.big 4 in
     let marked = put_first xs 0 magic 4 refl c.copy_in.ensures in
-    let ordered = put_then xs 0 _ (digits a.big 4 order_number) 4 marked (wide _) c.put_u32.ensures (omega (arith, c.requires)) in
+    let ordered = put_then xs 0 _ (digits a.big 4 order_number) 4 marked (wide _) c.put.ensures (omega (arith, c.requires)) in
     let version =
-    put_then xs 0 _ (signed_digits a.big 4 a.version) 4 ordered (wide _)
-    (c.put_i32.ensures ∙ store_signed _ 8 a.big w32 4 c.ranges.version) (omega (arith, c.requires)) in
+    put_then xs 0 _ (signed_digits a.big 4 a.h.version) 4 ordered (wide _)
+    (c.put-2.ensures ∙ store_signed _ 8 a.big w32 4 {z = a.h.version} (search rules)) (omega (arith, c.requires)) in
     let patch =
-    put_then xs 0 _ (signed_digits a.big 4 a.patch) 4 version (wide _)
-    (c.put_i32-2.ensures ∙ store_signed _ 12 a.big w32 4 c.ranges.patch) (omega (arith, c.requires)) in
-    (put_then xs 0 _ (digits a.big 4 a.format) 4 patch (wide _) c.put_u32-2.ensures (omega (arith, c.requires))).0
+    put_then xs 0 _ (signed_digits a.big 4 a.h.patch) 4 version (wide _)
+    (c.put-3.ensures ∙ store_signed _ 12 a.big w32 4 {z = a.h.patch} (search rules)) (omega (arith, c.requires)) in
+    (put_then xs 0 _ (digits a.big 4 a.h.format) 4 patch (wide _) c.put-4.ensures (omega (arith, c.requires))).0

@@ -1,23 +1,23 @@
--- Before each turn the counts of the first i tasks stand at the start of the list.
-use mathlib.Core.Path.{refl}
-use native.Mathlib.Omega.{arith}
-use mathlib.Core.Bool.{cond}
-use lib.Dec.{eqb}
-use lib.ListN.{get_or}
+-- The count of task i + 1 is put behind those of the first i tasks.
+use mathlib.Core.Path.{ap, ◌∙◌}
+use Prim.Native.Nat.{ℕ}
+use Rattle.lists.specs.Below.{list_below}
+use Rattle.lists.specs.Splice.{splice}
 use Rattle.lists.proofs.Splice.{splice_none, splice_more}
-use borrow.Author.Rules.{rules}
+use Rattle.packing_plan.proofs.Planned.{put_whole, count_for}
 use Rattle.packing_plan.proofs.put_counts.Goals as goal
 
 pub loop-i-init : goal.loop-i-init
-loop-i-init c = (search rules, refl, splice_none _ _)
+loop-i-init c = splice_none _ _
 
 pub loop-i-preserved : goal.loop-i-preserved
 loop-i-preserved c =
+    let l = c.loop-i in
+    rw (c.count_of.ensures, l.invariant) (splice_more _ (count_for c.args.totals.now c.least_count-least.result) l.i c.loop-i-test.true)
+
+pub returns : goal.returns
+returns c =
     let a = c.args in
-    let least = c.least_count-least.result in
-    let l = c.loop-i in (
-      search rules,
-      search rules,
-      rw (c.count_of.ensures, l.invariant.2)
-          (splice_more a.counts.now (λ j. cond (eqb (get_or a.totals.now j 0) 0) least 1) l.i (omega arith)),
-    )
+    let l = c.loop-i in
+    let put = put_whole a.counts.now a.n l.i _ c.requires.0 l.auto.i-end c.loop-i-test.false l.invariant in
+    put ∙ ap (λ (least : ℕ). splice a.counts.now 0 (list_below a.n (count_for a.totals.now least))) c.least_count-least.ensures

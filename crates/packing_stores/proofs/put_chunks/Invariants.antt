@@ -1,7 +1,4 @@
 -- Before each turn the chunks of the first i tasks are stored, one after the other, and `place` is where they end.
-use mathlib.Core.Path.{◌≡◌}
-use Prim.Native.Nat.{◌-◌, ◌≤◌}
-use lib.ListN.{length}
 use Rattle.lists.specs.Below.{join_below}
 use Rattle.lists.proofs.Stores.{Run}
 use Rattle.format.specs.Layout.{data_start}
@@ -11,9 +8,6 @@ use Rattle.packs.specs.Pack.{packed_chunk}
 use Rattle.packing_stores.proofs.put_chunks.Given as goal
 
 abbrev pub invariant-loop-i : goal.invariant-loop-i
-invariant-loop-i l = (l.i ≤ l.n) × (length l.second ≡ length l.initial.second)
-    × Run l.budget l.initial.second (data_start l.blocksize l.n)
+invariant-loop-i l =
+    Run l.budget l.initial.second (data_start l.blocksize l.n)
     (join_below l.i (packed_chunk (container_of (file_in l.l.head) l.l l.lists l.image l.table))) l.second l.place l.left
-
-abbrev pub decreases-loop-i : goal.decreases-loop-i
-decreases-loop-i l = l.n - l.i

@@ -4,7 +4,6 @@ use mathlib.Core.List.{List}
 use Prim.Native.Nat.{ℕ, ◌+◌, ◌-◌, ◌≤◌, ◌<◌}
 use native.Mathlib.Omega.{arith}
 use lib.ListN.{length, get_or, length-take, length-drop}
-use borrow.Author.Rules.{rules}
 use Rattle.lists.specs.Below.{join_below}
 use Rattle.lists.proofs.Below.{join_more}
 use Rattle.lists.proofs.Stores.{run_then, spends_part, spends_same}
@@ -29,7 +28,7 @@ bounds-lists-i c = omega (arith, read_listed c.requires.readable, c.requires.rea
 
 pub loop-k-init : goal.loop-k-init
 unfolding join_below
-loop-k-init c = (search rules, refl, run_none c.args.budget c.args.second.now c.args.at)
+loop-k-init c = (run_none c.args.budget c.args.second.now c.args.at)
 
 pub chunk_part-part-requires-clause-le_chunk : goal.chunk_part-part-requires-clause-le_chunk
 chunk_part-part-requires-clause-le_chunk c = (omega arith, omega (arith, counted c.requires.readable, c.loop-k-test.true))
@@ -38,7 +37,7 @@ pub slice_bounds-copy_within-count : goal.slice_bounds-copy_within-count
 slice_bounds-copy_within-count c =
     let l = c.loop-k in
     let fits =
-    room c.requires.readable l.k c.args.at _ _ l.place _ c.loop-k-test.true c.requires.task_in_bounds l.invariant.1 l.invariant.2.ends
+    room c.requires.readable l.k c.args.at _ _ l.place _ c.loop-k-test.true c.requires.task_in_bounds l.auto.second l.invariant.ends
     c.chunk_part-part.ensures in
     omega (arith, fits)
 
@@ -46,7 +45,7 @@ pub slice_bounds-copy_within-start : goal.slice_bounds-copy_within-start
 slice_bounds-copy_within-start c =
     let l = c.loop-k in
     let fits =
-    room c.requires.readable l.k c.args.at _ _ l.place _ c.loop-k-test.true c.requires.task_in_bounds l.invariant.1 l.invariant.2.ends
+    room c.requires.readable l.k c.args.at _ _ l.place _ c.loop-k-test.true c.requires.task_in_bounds l.auto.second l.invariant.ends
     c.chunk_part-part.ensures in
     omega (arith, fits)
 
@@ -54,7 +53,7 @@ pub copy_within-left-requires : goal.copy_within-left-requires
 copy_within-left-requires c =
     let l = c.loop-k in
     let fits =
-    room c.requires.readable l.k c.args.at _ _ l.place _ c.loop-k-test.true c.requires.task_in_bounds l.invariant.1 l.invariant.2.ends
+    room c.requires.readable l.k c.args.at _ _ l.place _ c.loop-k-test.true c.requires.task_in_bounds l.auto.second l.invariant.ends
     c.chunk_part-part.ensures in
     simp (length-take, length-drop) (omega (arith, fits))
 
@@ -62,7 +61,7 @@ pub overflow_add-place : goal.overflow_add-place
 overflow_add-place c =
     let l = c.loop-k in
     let fits =
-    room c.requires.readable l.k c.args.at _ _ l.place _ c.loop-k-test.true c.requires.task_in_bounds l.invariant.1 l.invariant.2.ends
+    room c.requires.readable l.k c.args.at _ _ l.place _ c.loop-k-test.true c.requires.task_in_bounds l.auto.second l.invariant.ends
     c.chunk_part-part.ensures in
     omega (arith, fits)
 
@@ -74,19 +73,16 @@ loop-k-preserved c =
     let part = c.chunk_part-part.result.now in
     let n = length l.second - l.place in
     let fits =
-    room c.requires.readable l.k a.at _ _ l.place part c.loop-k-test.true c.requires.task_in_bounds l.invariant.1 l.invariant.2.ends
+    room c.requires.readable l.k a.at _ _ l.place part c.loop-k-test.true c.requires.task_in_bounds l.auto.second l.invariant.ends
     c.chunk_part-part.ensures in
-    let stored = spends_part l.left l.second l.place n part (omega (arith, fits)) (omega (arith, fits)) c.copy_within-left.ensures in (
-      search rules,
-      search rules,
-      rw (join_more (λ j. chunk_bytes given a.task (j + 1)) l.k, ← c.chunk_part-part.ensures)
-          (run_then a.budget a.second.now a.at _ part (length part) l.invariant.2 refl stored (omega (arith, fits, l.invariant.1))),
-    )
+    let stored = spends_part l.left l.second l.place n part (omega (arith, fits)) (omega (arith, fits)) c.copy_within-left.ensures in
+    rw (join_more (λ j. chunk_bytes given a.task (j + 1)) l.k, ← c.chunk_part-part.ensures)
+    (run_then a.budget a.second.now a.at _ part (length part) l.invariant refl stored (omega (arith, fits, l.auto.second)))
 
 pub returns : goal.returns
 returns c =
     let a = c.args in
     let l = c.loop-k in
     let given : Container = container_of (file_in a.l.head) a.l a.lists.now a.image.now a.table.now in
-    spends_same refl (before_all given a.task l.k (omega (arith, l.invariant.0, c.loop-k-test.false, counted c.requires.readable)))
-    l.invariant.2.spends
+    spends_same refl (before_all given a.task l.k (omega (arith, counted c.requires.readable)))
+    l.invariant.spends

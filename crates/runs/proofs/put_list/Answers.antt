@@ -1,50 +1,38 @@
--- The loop's invariant: the first i values are stored. The measure is the whole values left; a part of the next one may follow them.
-use Prim.Native.Nat.{ℕ}
-use mathlib.Core.List.{List}
-use mathlib.Core.Path.{◌≡◌, refl, ap}
-use native.Mathlib.Nat.{le_antisymm}
-use native.Mathlib.Omega.{arith}
-use borrow.Author.Rules.{rules}
-use lib.ListN.{get_or}
-use Rattle.lists.specs.Below.{join_below}
-use Rattle.endian.specs.Number.{digits}
-use Rattle.endian.proofs.Number.{length_digits}
-use Rattle.lists.proofs.Splice.{join_none, join_then}
-use Rattle.lists.proofs.Stores.{spends_same, runs_whole, runs_cut}
+-- Those that there is room for are stored whole; a part of the next may follow them.
+use mathlib.Core.Path.{sym, ◌∙◌}
+use Rattle.lists.proofs.Splice.{put_none}
+use Rattle.runs.proofs.Listed.{one_more, all_whole, next_cut}
 use Rattle.runs.proofs.put_list.Goals as goal
 
 pub loop-i-init : goal.loop-i-init
-loop-i-init c = let a = c.args in (search rules, refl, join_none a.image.now a.at 8 _ (λ j. length_digits a.big 8 _))
+loop-i-init g c = (put_none c.args.image.now c.args.at).0
 
 pub loop-i-preserved : goal.loop-i-preserved
-loop-i-preserved c =
-    let l = c.loop-i in
+loop-i-preserved g c =
     let a = c.args in
-    let f : ℕ → List ℕ = λ j. digits a.big 8 (get_or a.values.now j 0) in (
-      search rules,
-      search rules,
-      join_then a.image.now a.at 8 f (λ j. length_digits a.big 8 _) l.i l.invariant.2 c.put_u64.ensures (omega arith),
-    )
+    let cut = c.split_at.ensures.by_index.0 in
+    let width = c.WIDTH-width.ensures in
+    one_more (g.T.Number.bytes_of a.big) c.WIDTH-width.result (λ v. g.met.T.Number.length_bytes a.big v ∙ sym width) a.image.now a.at a.values.now
+    c.split_at.result.0.now c.split_at.result.1.now cut (rw (← width) at c.requires) c.loop-i.i c.loop-i-test.true c.index-whole-i.is c.loop-i.invariant
+    c.put.ensures
 
-pub returns-then-whole-n : goal.returns-then-whole-n
-returns-then-whole-n c =
-    let l = c.loop-i in
-    let room = c.whole_numbers-whole.ensures in
-    let whole = c.whole_numbers-whole.result in
+pub returns-in-Some : goal.returns-in-Some
+returns-in-Some g c =
     let a = c.args in
-    let f : ℕ → List ℕ = λ j. digits a.big 8 (get_or a.values.now j 0) in
-    let all = le_antisymm l.invariant.0 c.loop-i-test.false in
-    runs_cut a.budget a.image.now a.at 8 f (λ j. length_digits a.big 8 _) whole a.n c.if-whole-n.true room.room
-    (room.next_short c.if-whole-n.true) (omega (arith, c.requires)) (rw all at l.invariant.2) c.put_u64_within.ensures
+    let cut = c.split_at.ensures.by_index.0 in
+    let width = c.WIDTH-width.ensures in
+    let room = rw (← width) at c.whole_numbers.ensures in
+    let few = c.split_at.ensures.front_len in
+    next_cut (g.T.Number.bytes_of a.big) c.WIDTH-width.result (λ v. g.met.T.Number.length_bytes a.big v ∙ sym width) a.image.now a.at a.values.now
+    c.split_at.result.0.now c.split_at.result.1.now cut (rw (← width) at c.requires) a.budget (rw few room.room) c.loop-i-test.false c.loop-i.invariant
+    c.in-Some.ensures.value (rw few room.next_short) c.put_within.ensures
 
-pub returns : goal.returns
-returns c =
-    let l = c.loop-i in
-    let room = c.whole_numbers-whole.ensures in
+pub returns-in-None : goal.returns-in-None
+returns-in-None g c =
     let a = c.args in
-    let f : ℕ → List ℕ = λ j. digits a.big 8 (get_or a.values.now j 0) in
-    let all = le_antisymm l.invariant.0 c.loop-i-test.false in
-    let whole = c.whole_numbers-whole.result in
-    let every : whole ≡ a.n = le_antisymm room.few (omega arith) in
-    spends_same refl (ap (λ (k : ℕ). join_below k f) every)
-    (runs_whole a.budget a.image.now a.at 8 f (λ j. length_digits a.big 8 _) whole room.room (rw all at l.invariant.2))
+    let cut = c.split_at.ensures.by_index.0 in
+    let width = c.WIDTH-width.ensures in
+    let room = rw (← width) at c.whole_numbers.ensures in
+    all_whole (g.T.Number.bytes_of a.big) c.WIDTH-width.result (λ v. g.met.T.Number.length_bytes a.big v ∙ sym width) a.image.now a.at a.values.now
+    c.split_at.result.0.now c.split_at.result.1.now cut (rw (← width) at c.requires) a.budget (rw c.split_at.ensures.front_len room.room) c.loop-i-test.false c.loop-i.invariant
+    c.in-None.ensures.value

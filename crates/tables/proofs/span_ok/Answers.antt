@@ -1,52 +1,20 @@
--- The loop's invariant: every cell passed keeps its rule, and where cells are left, the next one is that of task i and chunk `row`. The measure
--- is the cells left.
-use Rattle.std.proofs.Common.{◌≡◌, ℕ, ◌+◌, ◌*◌, ◌<◌, ◌≤◌, Bool, arith, rules}
-use Rattle.lists.specs.Below.{all_below}
-use Rattle.lists.proofs.Below.{all_none, run_holds, run_fails}
-use Rattle.format.specs.Record.{cell}
-use Rattle.tables.specs.Spans.{rule_at}
-use Rattle.tables.proofs.Rows.{row_next, row_placed}
+-- The loop's invariant: every cell passed keeps its rule, and where cells are left, the next one is that of task i and chunk `row`.
+use Rattle.tables.proofs.Rows.{passed_none, some_left, turn_fails, turn_holds}
 use Rattle.tables.proofs.span_ok.Goals as goal
 
-pub loop-at-init : goal.loop-at-init
-loop-at-init c = (search rules, search rules, λ some. (omega arith, c.requires.count_in_bounds.2 some), all_none _)
+pub loop-rest-init : goal.loop-rest-init
+loop-rest-init c = let a = c.args in passed_none a.k a.first a.holds.now a.counts.now a.cells.now c.requires.cells_in_bounds.1
+
+pub loop-rest-preserved : goal.loop-rest-preserved
+loop-rest-preserved c =
+    let a = c.args in
+    let l = c.loop-rest in
+    turn_holds a.k a.first a.holds.now a.counts.now a.cells.now l.rest.now l.row l.i l.invariant (some_left _ c.is_empty.ensures c.loop-rest-test.true) c.min-w.result c.min-w.ensures
+    c.split_at.result.0.now c.split_at.ensures.front c.row_ok.ensures c.split_at.result.1.now c.split_at.ensures.back c.if-not-row_ok.false-raw
 
 pub returns-then-not-row_ok : goal.returns-then-not-row_ok
 returns-then-not-row_ok c =
-    let Rule : ℕ → Bool = λ t. let a = c.args in
-    rule_at a.n a.holds.now a.counts.now (a.k * a.n + a.first + t) (cell a.cells.now t) in
-    let place : let a = c.args in
-    let l = c.loop-at in
-    (a.k * a.n + a.first + l.at ≡ l.row * a.n + l.i) × (l.i < a.n) = c.loop-at.invariant.2 c.loop-at-test.true in
-    let width : let a = c.args in
-    let t = c.loop-at in
-    (0 < c.least-w.result) × (t.i + c.least-w.result ≤ a.n) × (t.at + c.least-w.result ≤ a.count) = let p = place in
-    (omega arith, omega arith, omega arith) in
-    let tested : c.row_ok.result ≡ all_below c.least-w.result (λ t. Rule (c.loop-at.at + t)) = let a = c.args in
-    let t = c.loop-at in
-    row_placed a.n a.holds.now a.counts.now t.row t.i c.least-w.result (λ j. cell a.cells.now (t.at + j))
-    width.1 (λ j. omega arith) c.row_ok.ensures in
-    run_fails (Rule) c.loop-at.at c.least-w.result width.2 tested c.if-not-row_ok.true-raw
-
-pub loop-at-preserved : goal.loop-at-preserved
-loop-at-preserved c =
-    let place : let a = c.args in
-    let l = c.loop-at in
-    (a.k * a.n + a.first + l.at ≡ l.row * a.n + l.i) × (l.i < a.n) = c.loop-at.invariant.2 c.loop-at-test.true in
-    let width : let a = c.args in
-    let t = c.loop-at in
-    (0 < c.least-w.result) × (t.i + c.least-w.result ≤ a.n) × (t.at + c.least-w.result ≤ a.count) = let p = place in
-    (omega arith, omega arith, omega arith) in
-    let Rule : ℕ → Bool = λ t. let a = c.args in
-    rule_at a.n a.holds.now a.counts.now (a.k * a.n + a.first + t) (cell a.cells.now t) in
-    let tested : c.row_ok.result ≡ all_below c.least-w.result (λ t. Rule (c.loop-at.at + t)) = let a = c.args in
-    let t = c.loop-at in
-    row_placed a.n a.holds.now a.counts.now t.row t.i c.least-w.result (λ j. cell a.cells.now (t.at + j))
-    width.1 (λ j. omega arith) c.row_ok.ensures in
-    let t = c.loop-at in
-    let w = width in (
-      w.2,
-      omega arith,
-      λ more. (omega (arith, row_next c.args.n t.row), omega arith),
-      run_holds (Rule) t.at c.least-w.result t.invariant.3 tested c.if-not-row_ok.false-raw,
-    )
+    let a = c.args in
+    let l = c.loop-rest in
+    turn_fails a.k a.first a.holds.now a.counts.now a.cells.now l.rest.now l.row l.i l.invariant (some_left _ c.is_empty.ensures c.loop-rest-test.true) c.min-w.result c.min-w.ensures
+    c.split_at.result.0.now c.split_at.ensures.front c.row_ok.ensures c.if-not-row_ok.true-raw

@@ -1,16 +1,11 @@
 -- The loop's invariant: every cell passed keeps its rule, and where cells are left, the next one is that of task i and chunk `row`. The measure
 -- is the cells left.
-use Rattle.std.proofs.Common.{◌≡◌, ◌+◌, ◌-◌, ◌*◌, ◌<◌, ◌≤◌, true}
-use Rattle.lists.specs.Below.{all_below}
-use Rattle.format.specs.Record.{cell}
-use Rattle.tables.specs.Spans.{rule_at}
+use Rattle.std.proofs.Common.{length}
+use Rattle.tables.proofs.Rows.{Passed}
 use Rattle.tables.proofs.span_ok.Given as goal
 
-abbrev pub invariant-loop-at : goal.invariant-loop-at
-invariant-loop-at l = (l.at ≤ l.count)
-    × (l.row ≤ l.k + l.at)
-    × (l.at < l.count → (l.k * l.n + l.first + l.at ≡ l.row * l.n + l.i) × (l.i < l.n))
-    × (all_below l.at (λ t. rule_at l.n l.holds l.counts (l.k * l.n + l.first + t) (cell l.cells t)) ≡ true)
+abbrev pub invariant-loop-rest : goal.invariant-loop-rest
+invariant-loop-rest l = Passed l.k l.first l.holds l.counts l.cells l.rest l.row l.i
 
-abbrev pub decreases-loop-at : goal.decreases-loop-at
-decreases-loop-at l = l.count - l.at
+abbrev pub decreases-loop-rest : goal.decreases-loop-rest
+decreases-loop-rest l = length l.rest
