@@ -70,14 +70,10 @@ fn before_zero(bytes: &[u8]) -> usize
     ensures value { result ≡ before_zero bytes.now }
     ensures upper_bound { result ≤ length bytes.now }
 {
-    let mut i = 0;
-    while i < bytes.len() {
-        if bytes[i] == 0 {
-            return i;
-        }
-        i += 1;
-    }
-    i
+    bytes
+        .iter()
+        .position(|byte| *byte == 0)
+        .unwrap_or(bytes.len())
 }
 
 // Where the filename prefix lies in the image, without the zeros that follow it.

@@ -139,28 +139,15 @@ fn test_opening(
     Ok(())
 }
 
-// These numbers into the lists, from `at` on.
-fn put_stripe(lists: &mut [u64], at: usize, values: &[u64])
-    requires { at + length values.now ≤ length lists.old }
-    ensures { lists.new ≡ splice lists.old at (list_below (length values.now) (entry values.now)) }
+// The ranks and the sizes of the tasks into the lists, and for each task the same count.
+fn put_lists(lists: &mut [u64; LISTS], ranks: &[u64], sizes: &[u64], count: u64)
+    requires { (length ranks.now ≤ max_tasks) × (length sizes.now ≡ length ranks.now) }
+    ensures { lists.new ≡ with_counts (splice (splice lists.old 0 ranks.now) max_tasks sizes.now) (length ranks.now) (λ i. count) }
 {
-    let mut i = 0;
-    while i < values.len() {
-        lists[at + i] = values[i];
-        i += 1;
-    }
-}
-
-// The same count for each of n tasks.
-fn put_counts(lists: &mut [u64], n: usize, count: u64)
-    requires { count_at n ≤ length lists.old }
-    ensures { lists.new ≡ with_counts lists.old n (λ i. count) }
-{
-    let mut i = 0;
-    while i < n {
-        lists[head::COUNTS + i] = count;
-        i += 1;
-    }
+    let n = ranks.len();
+    lists[..n].copy_from_slice(ranks);
+    lists[head::SIZES..head::SIZES + n].copy_from_slice(sizes);
+    lists[head::COUNTS..head::COUNTS + n].fill(count);
 }
 
 // The lists of a session whose tasks have each begun so many chunks.
@@ -169,34 +156,8 @@ fn lists_of(ranks: &[u64], sizes: &[u64], begun: u64) -> [u64; LISTS]
     ensures { result ≡ lists_of (length ranks.now) (entry ranks.now) (entry sizes.now) (λ i. begun) }
 {
     let mut lists = [0; LISTS];
-    put_stripe(&mut lists, 0, ranks);
-    put_stripe(&mut lists, head::SIZES, sizes);
-    put_counts(&mut lists, ranks.len(), begun);
+    put_lists(&mut lists, ranks, sizes, begun);
     lists
-}
-
-// 0 into the first cells.
-fn mark_begun(table: &mut [i64], cells: usize)
-    requires { cells ≤ length table.old }
-    ensures { table.new ≡ splice table.old 0 (replicate cells (pos 0)) }
-{
-    let mut j = 0;
-    while j < cells {
-        table[j] = 0;
-        j += 1;
-    }
-}
-
-// -1 into so many cells, from `at` on.
-fn mark_unused(table: &mut [i64], at: usize, cells: usize)
-    requires { at + cells ≤ length table.old }
-    ensures { table.new ≡ splice table.old at (replicate cells unused) }
-{
-    let mut j = 0;
-    while j < cells {
-        table[at + j] = -1;
-        j += 1;
-    }
 }
 
 // The cells of a session whose n tasks have each begun so many chunks and written nothing: 0 for these chunks, -1 for the others.
@@ -204,8 +165,9 @@ fn blank(table: &mut [i64], n: usize, begun: usize, planned: usize)
     requires { (n ≤ max_tasks) × (begun ≤ planned) × (planned ≤ max_blocks) × (n * planned ≤ length table.old) }
     ensures { table.new ≡ splice table.old 0 (blank_cells begun n planned) }
 {
-    mark_begun(table, n * begun);
-    mark_unused(table, n * begun, n * (planned - begun));
+    let used = n * begun;
+    table[..used].fill(0);
+    table[used..n * planned].fill(-1);
 }
 
 // An opening whose tests passed, of the file that the call means: META1 and zeros up to D into the image; -1 into the first cells, and in version 4 a

@@ -2,19 +2,19 @@
 use native.Mathlib.Omega.{arith}
 use Rattle.format.specs.Layout.{meta2_start}
 use Rattle.format.proofs.Bounds.{data_start_small, rounds_small}
-use Rattle.layout.proofs.meta2_start.Goals as goal
+use Rattle.layout.proofs.Layout.meta2_start.Goals as goal
 
 pub overflow_mul-result : goal.overflow_mul-result
 overflow_mul-result c =
-    let p = c.requires in
-    rw c.global_skip.ensures (omega (arith, rounds_small p.0 c.args.maxchunks p.1))
+    let p = c.args.self.now.sound in
+    rw c.global_skip.ensures (omega (arith, rounds_small p c.args.maxchunks c.requires))
 
 pub overflow_add-result : goal.overflow_add-result
 overflow_add-result c =
-    let p = c.requires in
+    let p = c.args.self.now.sound in
     let a = c.args in
     rw c.global_skip.ensures
-    (omega (arith, data_start_small a.blocksize a.n p.0.block p.0.tasks, rounds_small p.0 a.maxchunks p.1))
+    (omega (arith, data_start_small a.self.now.blocksize a.self.now.n p.block p.tasks, rounds_small p a.maxchunks c.requires))
 
 pub returns : goal.returns
 unfolding meta2_start

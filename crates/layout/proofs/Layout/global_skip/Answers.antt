@@ -1,5 +1,5 @@
 use Rattle.format.specs.Layout.{globalskip}
-use Rattle.layout.proofs.global_skip.Goals as goal
+use Rattle.layout.proofs.Layout.global_skip.Goals as goal
 
 pub returns : goal.returns
 unfolding globalskip
