@@ -14,8 +14,7 @@ pub fn files_of(file: File) -> u32
 {
     match file {
         File::Single => 1,
-        File::First => 2,
-        File::Second => 2,
+        File::First | File::Second => 2,
     }
 }
 
@@ -24,8 +23,7 @@ pub fn number_of(file: File) -> u32
     ensures { result ≡ file_of file }
 {
     match file {
-        File::Single => 0,
-        File::First => 0,
+        File::Single | File::First => 0,
         File::Second => 1,
     }
 }
@@ -34,8 +32,5 @@ pub fn number_of(file: File) -> u32
 pub fn suits(file: File, h: Head) -> bool
     ensures { result ≡ suits file h }
 {
-    if h.files != files_of(file) {
-        return false;
-    }
-    h.file == number_of(file)
+    h.files == files_of(file) && h.file == number_of(file)
 }

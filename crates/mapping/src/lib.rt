@@ -50,8 +50,8 @@ fn put_entry(bytes: &mut [u8], at: usize, big: bool, second: bool, task: u32)
     requires { at + 8 ≤ length bytes.old }
     ensures { bytes.new ≡ splice bytes.old at (entry_bytes big second task) }
 {
-    numbers::put_u32(bytes, at, big, second as u32);
-    numbers::put_u32(bytes, at + 4, big, task);
+    numbers::put(bytes, at, big, second as u32);
+    numbers::put(bytes, at + 4, big, task);
 }
 
 // The entries of all ranks, from 4 on, where file 0 has n tasks.
@@ -81,7 +81,7 @@ pub fn put(
 {
     let mut bytes = [0; MOST];
     let size = first.len() + second.len();
-    numbers::put_u32(&mut bytes, 0, big, size as u32);
+    numbers::put(&mut bytes, 0, big, size as u32);
     let holders = ranks::all_holders(first, second);
     put_entries(&mut bytes, &holders[..size], first.len() as u64, big);
     let end = 4 + 8 * size;
@@ -137,8 +137,8 @@ fn judge_entry(
     ensures { judged result ≡ verdict (entry_tests (length first.now) (length second.now) (entry first.now) (entry second.now) big image.now start rank) }
 {
     let at = start + 4 + 8 * rank;
-    let file = read::get_u32(image, at, big).value;
-    let task = read::get_u32(image, at + 4, big).value;
+    let file = read::get::<u32>(image, at, big).value;
+    let task = read::get::<u32>(image, at + 4, big).value;
     let place = at as u64;
     let ranks = match file {
         0 => first,
@@ -194,7 +194,7 @@ pub fn judge(
     if left < 4 {
         return Err(short(len as u64, start as u64 + end as u64));
     }
-    let read = read::get_u32(image, start, big);
+    let read = read::get::<u32>(image, start, big);
     if read.value as usize != size {
         let says = size as u64;
         return Err(faults::number4(Refusal::BadMapping, Field::MappingSize, read, says, says));

@@ -23,13 +23,9 @@ pub fn total_of(l: Loaded, lists: &[u64], image: &[u8], table: &[i64], task: u64
     let n = l.head.n as usize;
     let i = (task - 1) as usize;
     let count = lists[head::COUNTS + i];
-    let mut at = i;
     let mut sum = 0;
-    let mut k = 0;
-    while k < count {
-        sum += tables::written(table, at);
-        at += n;
-        k += 1;
+    for k in 0..count {
+        sum += tables::written(table, k as usize * n + i);
     }
     sum
 }
@@ -66,13 +62,6 @@ fn copy_chunk(part: &[u8], skip: u64, out: &mut [u8], done: usize) -> usize
     out.len()
 }
 
-// What of `skip` bytes is left to skip after a part of `length` bytes.
-fn left_to_skip(skip: u64, length: u64) -> u64
-    ensures { result ≡ skip - length }
-{
-    if skip < length { 0 } else { skip - length }
-}
-
 // The stream of a task that the tests allow, from p on, into out, chunk by chunk until out is full: the bytes copied.
 pub fn copy_stream(
     l: Loaded,
@@ -91,15 +80,13 @@ pub fn copy_stream(
     let count = lists[head::COUNTS + i];
     let mut skip = p;
     let mut done = 0;
-    let mut k = 0;
-    while k < count {
+    for k in 0..count {
         if out.len() <= done {
             return done;
         }
         let part = chunks::chunk_part(l, lists, image, table, task, k + 1);
         done = copy_chunk(part, skip, out, done);
-        skip = left_to_skip(skip, part.len() as u64);
-        k += 1;
+        skip = skip.saturating_sub(part.len() as u64);
     }
     done
 }

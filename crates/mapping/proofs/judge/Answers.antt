@@ -24,11 +24,11 @@ pub returns-then-read-size : goal.returns-then-read-size
 returns-then-read-size c =
     let a = c.args in
     let size : ℕ = length a.first.now + length a.second.now in
-    let held_is : c.get_u32-read.result.value ≡ number_at a.big 4 a.image.now a.start = λ i. (c.get_u32-read.ensures i).value in
+    let held_is : c.get-read.result.value ≡ number_at a.big 4 a.image.now a.start = λ i. (c.get-read.ensures i).value in
     (λ i. verdict_of (c.number4.ensures i))
     ∙ (λ i. record {
       refusal = 25;
-      fault = number_fault Kinds.mapping_size (c.get_u32-read.ensures i).at (signed 31 (held_is i)) size size;
+      fault = number_fault Kinds.mapping_size (c.get-read.ensures i).at (signed 31 (held_is i)) size size;
     })
     ∙ sym
     (other_size (length a.first.now) (length a.second.now) (entry a.first.now) (entry a.second.now) a.big a.image.now a.start (omega arith) (omega arith)
@@ -38,7 +38,7 @@ pub returns-then-left-end : goal.returns-then-left-end
 unfolding mapping_length
 returns-then-left-end c =
     let a = c.args in
-    let held_is : c.get_u32-read.result.value ≡ number_at a.big 4 a.image.now a.start = λ i. (c.get_u32-read.ensures i).value in
+    let held_is : c.get-read.result.value ≡ number_at a.big 4 a.image.now a.start = λ i. (c.get-read.ensures i).value in
     (λ i. verdict_of (c.short-then-left-end.ensures i))
     ∙ sym
     (ends_within (length a.first.now) (length a.second.now) (entry a.first.now) (entry a.second.now) a.big a.image.now a.start (omega arith) (omega arith)
@@ -54,7 +54,7 @@ pub returns : goal.returns
 unfolding mapping_length
 returns c =
     let a = c.args in
-    let held_is : c.get_u32-read.result.value ≡ number_at a.big 4 a.image.now a.start = λ i. (c.get_u32-read.ensures i).value in
+    let held_is : c.get-read.result.value ≡ number_at a.big 4 a.image.now a.start = λ i. (c.get-read.ensures i).value in
     c.judge_entries.ensures
     ∙ sym
     (entries_asked (length a.first.now) (length a.second.now) (entry a.first.now) (entry a.second.now) a.big a.image.now a.start (omega arith) (omega arith)

@@ -21,7 +21,7 @@ pub returns-in_default : goal.returns-in_default
 returns-in_default c =
     let a = c.args in
     let at : ℕ = a.start + 4 + 8 * a.rank in
-    let file_is : c.get_u32-file.result.value ≡ number_at a.big 4 a.image.now at = λ i. (c.get_u32-file.ensures i).value in
+    let file_is : c.get-file.result.value ≡ number_at a.big 4 a.image.now at = λ i. (c.get-file.ensures i).value in
     let says = wide_same (sfits_of c.signed32-says.type_inv) ∙ c.signed32-says.ensures ∙ (λ i. signed 31 (file_is i)) in
     (λ i. verdict_of (c.bad_entry.ensures i))
     ∙ (λ i. record { refusal = 25; fault = fault_of Kinds.entry_file (suc a.rank) 0 at (says i) (pos 0) (pos 1) })
@@ -32,8 +32,8 @@ pub returns : goal.returns
 returns c =
     let a = c.args in
     let at : ℕ = a.start + 4 + 8 * a.rank in
-    let file_is : c.get_u32-file.result.value ≡ number_at a.big 4 a.image.now at = λ i. (c.get_u32-file.ensures i).value in
-    let task_is : c.get_u32-task.result.value ≡ number_at a.big 4 a.image.now (at + 4) = λ i. (c.get_u32-task.ensures i).value in
+    let file_is : c.get-file.result.value ≡ number_at a.big 4 a.image.now at = λ i. (c.get-file.ensures i).value in
+    let task_is : c.get-task.result.value ≡ number_at a.big 4 a.image.now (at + 4) = λ i. (c.get-task.ensures i).value in
     let judged = λ (xs : List ℕ) (is : c.match-file.ranks.now ≡ xs).
     c.judge_task.ensures ∙ (λ i. verdict (named_tests (length (is i)) (entry (is i)) (task_is i) a.rank at)) in
     elim c.match-file.branch [

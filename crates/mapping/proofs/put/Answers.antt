@@ -20,7 +20,7 @@ put_entries-requires c =
     let rank = entry c.args.first.now in
     let rank' = entry c.args.second.now in
     rw c.all_holders-holders.ensures
-    (all_held _ _ _ _ few.0 few.1 c.requires.second_value, omega (arith, few, length_row _ _ rank rank' few.0 few.1, c.put_u32.auto.s))
+    (all_held _ _ _ _ few.0 few.1 c.requires.second_value, omega (arith, few, length_row _ _ rank rank' few.0 few.1, c.put.auto.s))
 
 pub copy_within-requires : goal.copy_within-requires
 unfolding mapping_length
@@ -36,11 +36,11 @@ returns c =
     let rank = entry a.first.now in
     let rank' = entry a.second.now in
     let xs = a.image.now in
-    let row = ap (λ (held : List ℕ). splice c.put_u32.new.s 4
+    let row = ap (λ (held : List ℕ). splice c.put.new.s 4
     (join_below (length (take (n + m) held)) (λ r. entry_bytes a.big (ltb n (entry (take (n + m) held) r)) (task_in n (entry (take (n + m) held) r)))))
     c.all_holders-holders.ensures in
-    let made = mapping_made n m rank rank' a.big (replicate {A = ℕ} 1028 0) (omega arith) c.put_u32.ensures
-    (c.put_entries.ensures ∙ row ∙ ap (splice c.put_u32.new.s 4) (entries_are n m rank rank' a.big few.0 few.1 c.requires.second_value)) in
+    let made = mapping_made n m rank rank' a.big (replicate {A = ℕ} 1028 0) (omega arith) c.put.ensures
+    (c.put_entries.ensures ∙ row ∙ ap (splice c.put.new.s 4) (entries_are n m rank rank' a.big few.0 few.1 c.requires.second_value)) in
     let long = length_mapping n m rank rank' a.big in
     spends_part a.budget xs a.at (length xs - a.at) _ (omega (arith, long, c.requires)) (omega (arith, c.requires))
     (spends_same refl made c.copy_within.ensures)

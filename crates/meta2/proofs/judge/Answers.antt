@@ -7,13 +7,13 @@ use Rattle.endian.specs.Number.{number_at}
 use Rattle.format.specs.Record.{is_big, sizes_of, with_counts}
 use Rattle.meta2.specs.Judging.{CountsRead}
 use Rattle.format.proofs.Chunks.{meta2_parts}
-use Rattle.format.proofs.Stripes.{length_counted, sizes_counted, count_counted}
+use Rattle.format.proofs.Stripes.{sizes_counted, count_counted}
 use Rattle.meta2.proofs.judge.Goals as goal
 
 pub read_stripe-requires : goal.read_stripe-requires
 read_stripe-requires c =
     let p = c.requires in
-    (omega (arith, p.as_many, p.sound.tasks), omega (arith, p.whole, meta2_parts c.args.h.n c.args.maxchunks))
+    (omega (arith, c.told-lists, p.sound.tasks), omega (arith, p.whole, meta2_parts c.args.h.n c.args.maxchunks))
 
 pub judge_read-requires : goal.judge_read-requires
 unfolding with_counts
@@ -21,18 +21,17 @@ judge_read-requires c =
     let count : ℕ → ℕ = λ i. number_at (is_big c.args.h) 8 c.args.part.now (8 * i) in
     let counted : c.read_stripe.new.lists ≡ with_counts c.args.lists.now c.args.h.n count = simp zero-add at c.read_stripe.ensures in
     let sizes_same : sizes_of c.read_stripe.new.lists ≡ sizes_of c.args.lists.now =
-    ap sizes_of counted ∙ sizes_counted _ c.args.h.n count c.requires.sound.tasks c.requires.as_many in
+    ap sizes_of counted ∙ sizes_counted _ c.args.h.n count c.requires.sound.tasks c.told-lists in
     let read : let a = c.args in
     CountsRead a.part.now a.at a.h a.maxchunks c.read_stripe.new.lists = let n = c.args.h.n in
     record {
       there = record {
-        as_many = rw counted (length_counted c.args.lists.now n count c.requires.sound.tasks c.requires.as_many);
         sound = rw sizes_same c.requires.sound;
         small = c.requires.small;
         whole = c.requires.whole;
         ends = c.requires.ends;
       };
-      counts_are = λ i l. rw counted (count_counted c.args.lists.now n count c.requires.sound.tasks c.requires.as_many i l);
+      counts_are = λ i l. rw counted (count_counted c.args.lists.now n count c.requires.sound.tasks c.told-lists i l);
     } in
     read
 
@@ -42,7 +41,7 @@ returns-clause-value c =
     let count : ℕ → ℕ = λ i. number_at (is_big c.args.h) 8 c.args.part.now (8 * i) in
     let counted : c.read_stripe.new.lists ≡ with_counts c.args.lists.now c.args.h.n count = simp zero-add at c.read_stripe.ensures in
     let sizes_same : sizes_of c.read_stripe.new.lists ≡ sizes_of c.args.lists.now =
-    ap sizes_of counted ∙ sizes_counted _ c.args.h.n count c.requires.sound.tasks c.requires.as_many in
+    ap sizes_of counted ∙ sizes_counted _ c.args.h.n count c.requires.sound.tasks c.told-lists in
     rw (← sizes_same) c.judge_read.ensures
 
 pub returns-clause-lists_after : goal.returns-clause-lists_after
@@ -51,5 +50,5 @@ returns-clause-lists_after c =
     let count : ℕ → ℕ = λ i. number_at (is_big c.args.h) 8 c.args.part.now (8 * i) in
     let counted : c.read_stripe.new.lists ≡ with_counts c.args.lists.now c.args.h.n count = simp zero-add at c.read_stripe.ensures in
     let sizes_same : sizes_of c.read_stripe.new.lists ≡ sizes_of c.args.lists.now =
-    ap sizes_of counted ∙ sizes_counted _ c.args.h.n count c.requires.sound.tasks c.requires.as_many in
+    ap sizes_of counted ∙ sizes_counted _ c.args.h.n count c.requires.sound.tasks c.told-lists in
     counted

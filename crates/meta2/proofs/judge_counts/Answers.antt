@@ -25,6 +25,7 @@ use Rattle.format.proofs.Accepting.{count_numbered}
 use Rattle.format.proofs.Chunks.{meta2_parts}
 use Rattle.format.proofs.Formats.{least_one}
 use Rattle.format.proofs.Unsigned.{natural_unsigned}
+use Rattle.format.proofs.Judged.{verdict_of}
 use Rattle.format.proofs.Verdicts.{fails_first, passes_last, verdict_passes, verdict_fails, fields_first, fields_pass}
 use Rattle.meta2.specs.Judging.{CountsRead}
 use Rattle.meta2.proofs.judge_counts.Goals as goal
@@ -112,7 +113,7 @@ returns-then-count-n c =
     rw c.least_count-least.ensures at c.first_outside-count.ensures in
     let a = c.args in
     let i = c.first_outside-count.result in
-    c.bad_count.ensures
+    (λ i. verdict_of (c.bad_count.ensures i))
     ∙ (λ x. record {
       refusal = 13;
       fault =
@@ -135,7 +136,7 @@ returns-then-most-maxchunks c =
     c.first_outside-count.result ≡ first_not a.h.n (λ j. within (least_count a.h.format) a.maxchunks (pos (count_of a.lists.now j))) =
     rw c.least_count-least.ensures at c.first_outside-count.ensures in
     let most = c.greatest-most.result in
-    c.not_as_needed.ensures
+    (λ i. verdict_of (c.not_as_needed.ensures i))
     ∙ (λ x. record { refusal = 13; fault = number_fault Kinds.maxchunks (c.last_at-place.ensures x) (pos c.args.maxchunks) most most })
     ∙ bad_most c.requires searched c.if-count-n.false c.greatest-most.ensures c.if-most-maxchunks.true
 
@@ -144,4 +145,4 @@ returns c =
     let searched : let a = c.args in
     c.first_outside-count.result ≡ first_not a.h.n (λ j. within (least_count a.h.format) a.maxchunks (pos (count_of a.lists.now j))) =
     rw c.least_count-least.ensures at c.first_outside-count.ensures in
-    c.passes.ensures ∙ counts_pass c.requires searched c.if-count-n.false c.greatest-most.ensures c.if-most-maxchunks.false
+    counts_pass c.requires searched c.if-count-n.false c.greatest-most.ensures c.if-most-maxchunks.false

@@ -92,5 +92,4 @@ unfolding holds
 returns c =
     let counted : let a = c.args in
     counts_rule a.h.format a.h.n a.maxchunks (λ i. pos (count_of a.lists.now i)) ≡ true = sym c.counts_ok.ensures ∙ c.if-not-counts_ok.false in
-    c.passes.ensures
-    ∙ values_pass c.requires counted c.values_ok.ensures (c.if-not-values_ok.false)
+    values_pass c.requires counted c.values_ok.ensures (c.if-not-values_ok.false)

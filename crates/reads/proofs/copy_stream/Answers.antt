@@ -4,7 +4,6 @@ use mathlib.Core.List.{List}
 use Prim.Native.Nat.{ℕ, ◌-◌, ◌<◌, min}
 use native.Mathlib.Omega.{arith}
 use lib.ListN.{length, take, drop}
-use borrow.Author.Rules.{rules}
 use Rattle.lists.specs.Below.{join_below}
 use Rattle.lists.specs.Splice.{splice}
 use Rattle.lists.proofs.Below.{join_more}
@@ -39,7 +38,7 @@ bounds-lists-i c = let listed : c.args.task - 1 < max_tasks = read_listed c.requ
 
 pub loop-k-init : goal.loop-k-init
 unfolding join_below
-loop-k-init c = (search rules, copied_none c.args.out.now c.args.p)
+loop-k-init c = copied_none c.args.out.now c.args.p
 
 pub returns-then-out-done : goal.returns-then-out-done
 returns-then-out-done c =
@@ -48,7 +47,7 @@ returns-then-out-done c =
     let counted : entry a.lists.now (count_at (a.task - 1)) ≡ chunks_used given a.task = read_counted c.requires in
     let l = c.loop-k in
     let in_use : l.k < chunks_used given a.task = omega (arith, counted, c.loop-k-test.true) in
-    let copied = l.invariant.1 in
+    let copied = l.invariant in
     let left : ℕ = chunks_used given a.task - l.k in
     let end = ended c.requires (omega (arith, in_use)) (copied_full _ l.k copied (omega (arith, copied_same copied, c.if-out-done.true)) left).1 in
     record { out_after = end.0; value = end.1 }
@@ -62,15 +61,12 @@ pub loop-k-preserved : goal.loop-k-preserved
 loop-k-preserved c =
     let l = c.loop-k in
     let part = c.chunk_part-part in
-    let copied = c.copy_chunk-done.ensures in (
-      search rules,
-      rw (join_more _ l.k, ← part.ensures)
-          (copied_more l.invariant.1 part.result.now _ _ _ copied.out_after copied.value c.left_to_skip-skip.ensures),
-    )
+    let copied = c.copy_chunk-done.ensures in
+    rw (join_more _ l.k, ← part.ensures) (copied_more l.invariant part.result.now _ _ _ copied.out_after copied.value c.saturating_sub-skip.ensures)
 
 pub returns : goal.returns
 returns c =
     let counted : entry c.args.lists.now (count_at (c.args.task - 1)) ≡ chunks_used _ c.args.task = read_counted c.requires in
     let l = c.loop-k in
-    let end = ended c.requires (omega (arith, l.invariant.0, c.loop-k-test.false, counted)) l.invariant.1 in
+    let end = ended c.requires (omega (arith, counted)) l.invariant in
     record { out_after = end.0; value = end.1 }
