@@ -1,28 +1,24 @@
 -- Each return, by the tests that led there.
 use mathlib.Core.Path.{◌≡◌, refl, ap, sym, ◌∙◌}
-use mathlib.Core.Bool.{Bool, true, false, not}
+use mathlib.Core.Bool.{Bool, true, false}
 use mathlib.Core.List.{List, [], ◌∷◌}
 use Prim.Native.Nat.{ℕ}
 use native.Mathlib.Omega.{arith}
-use lib.IntN.{ℤ, pos}
 use mir.Syntax.{w32}
 use mir.Val.{bool_byte}
 use mir.Facts.{to_z-of_z}
 use borrow.Author.Rules.{rules}
 use borrow.Author.Tests.{lt-ltb, le-ltb}
 use Rattle.endian.specs.Number.{number_at}
-use Rattle.endian.specs.Signed.{signed, signed_at}
-use Rattle.endian.specs.declared.read.Read.{Read}
+use Rattle.endian.specs.Signed.{signed_at}
 use Rattle.format.specs.Limits.{format_rule, blocksize_rule, tasks_rule}
 use Rattle.format.specs.Layout.{meta1_end}
 use Rattle.format.specs.Kinds
 use Rattle.format.specs.Meta1.{tasks_at, files_at, file_number_at}
 use Rattle.format.specs.declared.head.File.{File}
 use Rattle.format.specs.Record.{order_of, files_of, file_of, head_of}
-use Rattle.format.specs.Refusals.{Verdict, Test, verdict, passed, number_of}
-use Rattle.format.specs.Judge.{number_fault, end_fault, field_tests}
-use Rattle.format.specs.declared.fault.Broken.{Broken}
-use Rattle.format.specs.declared.refusal.Refusal.{Refusal}
+use Rattle.format.specs.Refusals.{Verdict, Test, verdict, passed}
+use Rattle.format.specs.Judge.{end_fault, field_tests}
 use Rattle.format.specs.declared.refusal.Refusal.TheVariants.{BadFormat, BadBlocksize, BadTasks}
 use Rattle.format.proofs.Verdicts.{fails_first, passes_first, passes_last}
 use Rattle.format.proofs.Judged.{verdict_of, handed_on, answer_first, answer_next}
