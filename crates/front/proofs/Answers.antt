@@ -6,7 +6,7 @@ use Prim.Native.Nat.{ℕ, ◌^◌, ◌<◌, ◌≤◌}
 use native.Mathlib.Omega.{arith}
 use borrow.Author.Tests.{ltb-false, le-ltb, not-false}
 use lib.Dec.{ltb}
-use lib.IntN.{pos}
+use lib.IntN.{ℤ, pos}
 use Rattle.endian.specs.Number.{number_at}
 use Rattle.endian.specs.Signed.{signed, signed_at, natural}
 use Rattle.endian.proofs.Signed.{natural_signed, within_one}
@@ -14,8 +14,11 @@ use Rattle.format.specs.Limits.{max_tasks, min_blocksize, max_blocksize, plain_f
 use Rattle.format.specs.Layout.{meta1_end}
 use Rattle.format.specs.declared.head.Head.{Head}
 use Rattle.format.specs.declared.head.File.{File}
+use Rattle.endian.specs.declared.read.Read.{Read}
+use Rattle.format.specs.declared.fault.Broken.{Broken}
+use Rattle.format.specs.declared.refusal.Refusal.{Refusal}
 use Rattle.format.specs.Kinds
-use Rattle.format.specs.Refusals.{Test, test_at, verdict, passed}
+use Rattle.format.specs.Refusals.{Test, test_at, verdict, passed, number_of}
 use Rattle.format.specs.Meta1.{fixed_length, format_at, blocksize_at, tasks_at, files_at, file_number_at, version_field, patch_field, files_field, file_number_field}
 use Rattle.format.specs.Record.{order_of, files_of, file_of, head_of}
 use Rattle.format.specs.Judge.{number_fault, end_fault, big_in, ordered_in, tasks_in, head_in, start_tests, field_tests, fixed_tests}
@@ -24,7 +27,7 @@ use Rattle.format.proofs.Power.{blocksize_facts}
 use Rattle.format.proofs.Rules.{blocksize_natural, tasks_natural}
 use Rattle.format.proofs.Refusals.{both_pass, none_fails}
 use Rattle.format.proofs.Verdicts.{passes_last}
-use Rattle.format.proofs.Judged.{passed_passes}
+use Rattle.format.proofs.Judged.{verdict_of, passed_passes}
 use Rattle.format.proofs.Accepting.{start_numbered, field_numbered}
 use Rattle.format.proofs.Formats.{format_facts, format_number}
 use Rattle.format.proofs.Fields.{blocksize_number, tasks_number, tasks_facts, verdict_agree}
@@ -45,6 +48,18 @@ module _ (xs : List ℕ) (len : ℕ) where
   start_long e =
       let (mark, (order, (long, end))) = none_fails (start_tests xs len) (start_numbered xs len) (passed_passes _ e) in
       ltb-false len fixed_length long
+
+-- a rule of a number that is read says the same of the number in the file
+pub ruled : (rule : ℤ → Bool) {read : Read ℕ} {value at : ℕ} {answer : Bool} → read ≡ record { value = value; at = at } → answer ≡ rule (pos read.value)
+    → not (rule (pos value)) ≡ not answer
+ruled rule is e = (λ i. not (rule (pos (sym is i).value))) ∙ ap not (sym e)
+
+-- what is broken is said of the number in the file
+pub said : (refusal : Refusal) (kind least most : ℕ) {b : Broken} {read : Read ℕ} {value at : ℕ} → read ≡ record { value = value; at = at }
+    → b ≡ record { refusal = refusal; fault = number_fault kind read.at (signed 31 read.value) least most }
+    → verdict_of b ≡ record { refusal = number_of refusal; fault = number_fault kind at (signed 31 value) least most }
+said refusal kind least most is e =
+    ap verdict_of e ∙ (λ i. record { refusal = number_of refusal; fault = number_fault kind (is i).at (signed 31 (is i).value) least most })
 
 -- test 3, of an image of `len` bytes of which so many are needed
 abbrev pub end_test : ℕ → ℕ → Test

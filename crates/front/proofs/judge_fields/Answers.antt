@@ -1,34 +1,30 @@
 -- Each return, by the tests that led there.
 use mathlib.Core.Path.{◌≡◌, refl, ap, sym, ◌∙◌}
-use mathlib.Core.Bool.{Bool, true, false, not}
+use mathlib.Core.Bool.{Bool, true, false}
 use mathlib.Core.List.{List, [], ◌∷◌}
 use Prim.Native.Nat.{ℕ}
 use native.Mathlib.Omega.{arith}
-use lib.IntN.{ℤ, pos}
 use mir.Syntax.{w32}
 use mir.Val.{bool_byte}
 use mir.Facts.{to_z-of_z}
 use borrow.Author.Rules.{rules}
 use borrow.Author.Tests.{lt-ltb, le-ltb}
 use Rattle.endian.specs.Number.{number_at}
-use Rattle.endian.specs.Signed.{signed, signed_at}
-use Rattle.endian.specs.declared.read.Read.{Read}
+use Rattle.endian.specs.Signed.{signed_at}
 use Rattle.format.specs.Limits.{format_rule, blocksize_rule, tasks_rule}
 use Rattle.format.specs.Layout.{meta1_end}
 use Rattle.format.specs.Kinds
 use Rattle.format.specs.Meta1.{tasks_at, files_at, file_number_at}
 use Rattle.format.specs.declared.head.File.{File}
 use Rattle.format.specs.Record.{order_of, files_of, file_of, head_of}
-use Rattle.format.specs.Refusals.{Verdict, Test, verdict, passed, number_of}
-use Rattle.format.specs.Judge.{number_fault, end_fault, field_tests}
-use Rattle.format.specs.declared.fault.Broken.{Broken}
-use Rattle.format.specs.declared.refusal.Refusal.{Refusal}
+use Rattle.format.specs.Refusals.{Verdict, Test, verdict, passed}
+use Rattle.format.specs.Judge.{end_fault, field_tests}
 use Rattle.format.specs.declared.refusal.Refusal.TheVariants.{BadFormat, BadBlocksize, BadTasks}
 use Rattle.format.proofs.Verdicts.{fails_first, passes_first, passes_last}
 use Rattle.format.proofs.Judged.{verdict_of, handed_on, answer_first, answer_next}
 use Rattle.format.proofs.Fields.{tasks_facts}
 use Rattle.front.specs.Judging.{value_test}
-use Rattle.front.proofs.Answers.{end_test, from_7, fields_unsigned, fields_read}
+use Rattle.front.proofs.Answers.{end_test, ruled, said, from_7, fields_unsigned, fields_read}
 use Rattle.front.proofs.judge_fields.Goals as goal
 use Rattle.front.proofs.judge_fields.Goals.{After-files_of-files, After-meta1_end-end}
 
@@ -36,18 +32,6 @@ use Rattle.front.proofs.judge_fields.Goals.{After-files_of-files, After-meta1_en
 order_number : (big : Bool) → bool_byte big ≡ order_of big
 order_number true = refl
 order_number false = refl
-
--- a rule of a number that is read says the same of the number in the file
-ruled : (rule : ℤ → Bool) {read : Read ℕ} {value at : ℕ} {answer : Bool} → read ≡ record { value = value; at = at } → answer ≡ rule (pos read.value)
-    → not (rule (pos value)) ≡ not answer
-ruled rule is e = (λ i. not (rule (pos (sym is i).value))) ∙ ap not (sym e)
-
--- what is broken is said of the number in the file
-said : (refusal : Refusal) (kind least most : ℕ) {b : Broken} {read : Read ℕ} {value at : ℕ} → read ≡ record { value = value; at = at }
-    → b ≡ record { refusal = refusal; fault = number_fault kind read.at (signed 31 read.value) least most }
-    → verdict_of b ≡ record { refusal = number_of refusal; fault = number_fault kind at (signed 31 value) least most }
-said refusal kind least most is e =
-    ap verdict_of e ∙ (λ i. record { refusal = number_of refusal; fault = number_fault kind (is i).at (signed 31 (is i).value) least most })
 
 -- what is left to ask once 4, 5 and 6 passed
 asked_7 : (c : After-files_of-files) → let a = c.args in
