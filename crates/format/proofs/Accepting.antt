@@ -21,7 +21,7 @@ use Rattle.format.specs.Layout.{meta1_end, meta2_start}
 use Rattle.format.proofs.Chunks.{meta1_before_data}
 use Rattle.format.specs.declared.head.Head.{Head}
 use Rattle.format.specs.declared.head.File.{File}
-use Rattle.format.specs.declared.fault.Verdict.{Verdict}
+use Rattle.format.specs.Refusals.{Verdict}
 use Rattle.format.specs.Refusals.{Test, first_failing, verdict, passed}
 use Rattle.format.specs.Meta1
 use Rattle.format.specs.Meta2

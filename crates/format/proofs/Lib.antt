@@ -30,6 +30,7 @@ pub mod Fields
 pub mod InBounds
 pub mod Fronts
 pub mod Unclosed
+pub mod Judged
 pub mod Judging
 pub mod Opens
 pub mod Only

@@ -7,7 +7,7 @@ use native.Mathlib.Omega.{arith}
 use Rattle.lists.specs.Below.{all_below, first_not, join_below, list_below}
 use Rattle.lists.proofs.Below.{first_none, first_below}
 use Rattle.format.specs.declared.fault.Fault.{Fault}
-use Rattle.format.specs.declared.fault.Verdict.{Verdict}
+use Rattle.format.specs.Refusals.{Verdict}
 use Rattle.format.specs.Refusals.{Test, test_at, first_failing, first_fault, verdict, passed}
 use Rattle.format.proofs.Refusals.{Each, Numbered, next_passes}
 

@@ -2,7 +2,6 @@
 -- the paper's order.
 use Rattle.std.specs.Prelude.{Bool, cond, List, [], ◌∷◌, ℕ, ℤ, pos, Result, Ok, Err}
 use Rattle.format.specs.declared.fault.Fault.{Fault}
-use Rattle.format.specs.declared.fault.Verdict.{Verdict}
 use Rattle.format.specs.declared.fault.Broken.{Broken}
 use Rattle.format.specs.declared.fault.Field.{Field}
 use Rattle.format.specs.declared.fault.Field.TheVariants.{Mark, Order, Image, Format, Blocksize, Tasks, Files, FileNumber, Rank, Size, Maxchunks, Start, Table, Count, Value, MappingSize, EntryFile, EntryTask, EntryRank}
@@ -41,7 +40,11 @@ unfoldable pub first_fault : List Test → Fault
 first_fault [] = no_fault
 first_fault (t ∷ ts) = cond t.fails t.fault (first_fault ts)
 
--- both
+-- both: what the tests of a load give, a refusal with what is broken, or 0 and no fault
+pub record Verdict : Type 0 where
+  pub refusal : ℕ
+  pub fault : Fault
+
 abbrev pub verdict : List Test → Verdict
 verdict ts = record { refusal = first_failing ts; fault = first_fault ts }
 

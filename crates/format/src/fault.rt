@@ -96,13 +96,6 @@ pub struct Fault {
     pub chunk: u32,
 }
 
-// What the tests of a load give: a refusal with what is broken, or 0 and no fault.
-#[derive(Clone, Copy)]
-pub struct Verdict {
-    pub refusal: u32,
-    pub fault: Fault,
-}
-
 // What a load answers where a test fails: the refusal, and the field that is broken.
 #[derive(Clone, Copy)]
 pub struct Broken {

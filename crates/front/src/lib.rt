@@ -2,54 +2,25 @@
 // both of 3.
 #![tactic(auto)]
 
-ghost use Rattle.std.specs.Prelude.{◌≡◌, false, ◌+◌, ◌<◌, ◌≤◌, ◌^◌, pos, length};
+ghost use Rattle.std.specs.Prelude.{◌≡◌, false, ◌+◌, ◌<◌, ◌≤◌, ◌^◌, ◌∷◌, [], pos, length, IfOk};
 ghost use Rattle.endian.specs.Signed.{signed_at};
-ghost use Rattle.format.specs.declared.head.Head.{Head};
-ghost use Rattle.format.specs.declared.head.File.{File};
-ghost use Rattle.front.specs.declared.Start.{Start};
-ghost use Rattle.front.specs.declared.Fixed.{Fixed};
-ghost use Rattle.endian.specs.declared.read.Number4.{Number4};
-ghost use Rattle.format.specs.declared.fault.Verdict.{Verdict};
-ghost use Rattle.format.specs.Kinds;
-ghost use Rattle.format.specs.Meta1.{order_at};
-ghost use Rattle.format.specs.Refusals.{verdict};
-ghost use Rattle.format.specs.Record.{no_head};
-ghost use Rattle.format.specs.Judge.{is, number_fault, magic_in, big_in, ordered_in, field_tests};
-ghost use Rattle.front.specs.Judging.{Covers, FieldsRead, start_gives, fixed_gives};
+ghost use Rattle.format.specs.Meta1.{fixed_length};
+ghost use Rattle.format.specs.Refusals.{judged, kind_of, verdict};
+ghost use Rattle.format.specs.Judge.{is, magic_in, big_in, head_in, start_tests, field_tests, fixed_tests};
+ghost use Rattle.front.specs.Judging.{Covers, order_test, value_test};
 
 use endian::read;
-use endian::read::Number4;
-use format::fault::Verdict;
+use format::fault::{Broken, Field};
 use format::head::{File, Head};
-use format::{fault, field, limit, refusal};
-use rules::{heads, limits};
-
-// What the first tests give: their verdict, and where they pass whether the byte order is big.
-#[derive(Clone, Copy)]
-pub struct Start {
-    pub verdict: Verdict,
-    pub big: bool,
-}
-
-// What the fixed fields give: their verdict, and the head, zeros where they do not pass.
-#[derive(Clone, Copy)]
-pub struct Fixed {
-    pub verdict: Verdict,
-    pub head: Head,
-}
+use format::refusal::Refusal;
+use format::{field, limit};
+use rules::limits;
 
 fn has_magic(xs: &[u8]) -> bool
     requires { 4 ≤ length xs.now }
     ensures { result ≡ magic_in xs.now }
 {
-    let mut i = 0;
-    while i < 4 {
-        if xs[i] != field::MAGIC[i] {
-            return false;
-        }
-        i += 1;
-    }
-    true
+    xs.starts_with(&field::MAGIC)
 }
 
 // Whether the field of 4 bytes has this value.
@@ -57,192 +28,104 @@ fn field_is(xs: &[u8], at: usize, big: bool, value: u32) -> bool
     requires { (at + 4 ≤ length xs.now) × (value < 2 ^ 31) }
     ensures { result ≡ is value (signed_at big 4 xs.now at) }
 {
-    read::get_u32(xs, at, big).value == value
+    read::get::<u32>(xs, at, big).value == value
 }
 
-fn is_big(xs: &[u8]) -> bool
-    requires { 8 ≤ length xs.now }
-    ensures { result ≡ big_in xs.now }
-{
-    field_is(xs, field::ORDER_AT, true, field::ORDER)
-}
-
-// Whether the order number is 1 in one of the two orders, where `big` says whether it is in the big one.
-fn has_order(xs: &[u8], big: bool) -> bool
-    requires { (8 ≤ length xs.now) × (big ≡ big_in xs.now) }
-    ensures { result ≡ ordered_in xs.now }
-{
-    if big {
-        return true;
-    }
-    field_is(xs, field::ORDER_AT, false, field::ORDER)
-}
-
-fn no_start(verdict: Verdict) -> Start
-    ensures { result ≡ record { verdict = verdict; big = false } }
-{
-    Start {
-        verdict,
-        big: false,
-    }
-}
-
-// The mark is not there, and then the order is not.
-fn no_mark() -> Start
-    ensures { result ≡ record { verdict = record { refusal = 1; fault = number_fault Kinds.mark 0 (pos 0) 0 0 }; big = false } }
-{
-    no_start(faults::not_as_needed(refusal::NO_MARK, fault::MARK, 0, 0, 0))
-}
-
-fn no_order() -> Start
-    ensures { result ≡ record { verdict = record { refusal = 2; fault = number_fault Kinds.order order_at (pos 0) 0 0 }; big = false } }
-{
-    no_start(faults::not_as_needed(
-        refusal::NO_ORDER,
-        fault::ORDER,
-        field::ORDER_AT as u64,
-        0,
-        0,
-    ))
-}
-
-// Tests 1, 2 and 3: the magic number, the byte order, and that the fixed fields are there.
-fn judge_start(xs: &[u8], len: u64) -> Start
+// Test 2: the order number is 1 in one of the two byte orders; whether that is the big one is handed back.
+fn judge_order(xs: &[u8], len: u64) -> Result<bool, Broken>
     requires { Covers len xs.now }
-    ensures { result ≡ start_gives xs.now len }
+    ensures verdict { judged result ≡ verdict (order_test xs.now len ∷ []) }
+    ensures order { IfOk result (λ big. big ≡ big_in xs.now) }
 {
-    if len < 4 {
-        return no_mark();
+    if 8 <= len {
+        if field_is(xs, field::ORDER_AT, true, field::ORDER) {
+            return Ok(true);
+        }
+        if field_is(xs, field::ORDER_AT, false, field::ORDER) {
+            return Ok(false);
+        }
     }
-    if !has_magic(xs) {
-        return no_mark();
+    let place = field::ORDER_AT as u64;
+    Err(faults::not_as_needed(Refusal::NoOrder, Field::Order, place, 0, 0))
+}
+
+// Tests 1, 2 and 3: the magic number, the byte order, which is handed back, and that the fixed fields are there.
+fn judge_start(xs: &[u8], len: u64) -> Result<bool, Broken>
+    requires { Covers len xs.now }
+    ensures verdict { judged result ≡ verdict (start_tests xs.now len) }
+    ensures order { IfOk result (λ big. big ≡ big_in xs.now) }
+{
+    if len < 4 || !has_magic(xs) {
+        return Err(faults::not_as_needed(Refusal::NoMark, Field::Mark, 0, 0, 0));
     }
-    if len < 8 {
-        return no_order();
-    }
-    let big = is_big(xs);
-    if !has_order(xs, big) {
-        return no_order();
-    }
+    let big = judge_order(xs, len)?;
     let needed = field::RANKS_AT as u64;
     if len < needed {
-        return no_start(faults::not_as_needed(
-            refusal::SHORT_META1,
-            fault::IMAGE,
-            len,
-            len,
-            needed,
-        ));
+        return Err(faults::not_as_needed(Refusal::ShortMeta1, Field::Image, len, len, needed));
     }
-    Start {
-        verdict: faults::passes(),
-        big,
+    Ok(big)
+}
+
+// Test 7 of one of its two fields, which has to have this value.
+fn judge_value(xs: &[u8], at: usize, big: bool, field: Field, value: u32) -> Result<(), Broken>
+    requires { (at + 4 ≤ length xs.now) × (value < 2 ^ 31) }
+    ensures { judged result ≡ verdict (value_test (kind_of field) at (signed_at big 4 xs.now at) value ∷ []) }
+{
+    let read = read::get::<u32>(xs, at, big);
+    if read.value != value {
+        let needed = value as u64;
+        return Err(faults::number4(Refusal::BadFiles, field, read, needed, needed));
     }
+    Ok(())
 }
 
 // Tests 4, 5, 6, 7 and again 3: the fixed fields, and that the lists and the last two fields are there.
-fn judge_fields(
-    file: File,
-    xs: &[u8],
-    len: u64,
-    big: bool,
-    format: Number4,
-    blocksize: Number4,
-    n: Number4,
-) -> Verdict
-    requires { FieldsRead xs.now big format blocksize n }
-    ensures { result ≡ verdict (field_tests xs.now file len) }
+fn judge_fields(file: File, xs: &[u8], len: u64, big: bool) -> Result<Head, Broken>
+    requires { (big ≡ big_in xs.now) × (fixed_length ≤ length xs.now) }
+    ensures verdict { judged result ≡ verdict (field_tests xs.now file len) }
+    ensures head { IfOk result (λ h. h ≡ head_in xs.now) }
 {
+    let format = read::get::<u32>(xs, field::FORMAT_AT, big);
     if !limits::format_ok(format.value) {
-        return faults::number4(
-            refusal::BAD_FORMAT,
-            fault::FORMAT,
-            format,
-            limit::PLAIN_FORMAT as u64,
-            limit::IDLE_FORMAT as u64,
-        );
+        let (least, most) = (limit::PLAIN_FORMAT as u64, limit::IDLE_FORMAT as u64);
+        return Err(faults::number4(Refusal::BadFormat, Field::Format, format, least, most));
     }
-    if !limits::blocksize_ok(blocksize.value) {
-        return faults::number4(
-            refusal::BAD_BLOCKSIZE,
-            fault::BLOCKSIZE,
-            blocksize,
-            limit::MIN_BLOCKSIZE as u64,
-            limit::MAX_BLOCKSIZE as u64,
-        );
+    let block = read::get::<u32>(xs, field::BLOCKSIZE_AT, big);
+    if !limits::blocksize_ok(block.value) {
+        let (least, most) = (limit::MIN_BLOCKSIZE as u64, limit::MAX_BLOCKSIZE as u64);
+        return Err(faults::number4(Refusal::BadBlocksize, Field::Blocksize, block, least, most));
     }
+    let n = read::get::<u32>(xs, field::TASKS_AT, big);
     if !limits::tasks_ok(n.value) {
-        return faults::number4(
-            refusal::BAD_TASKS,
-            fault::TASKS,
-            n,
-            1,
-            limit::MAX_TASKS as u64,
-        );
+        let most = limit::MAX_TASKS as u64;
+        return Err(faults::number4(Refusal::BadTasks, Field::Tasks, n, 1, most));
     }
-    let files = read::get_u32(xs, field::FILES_AT, big);
-    let nfiles = files::files_of(file);
-    if files.value != nfiles {
-        let needed = nfiles as u64;
-        return faults::number4(refusal::BAD_FILES, fault::FILES, files, needed, needed);
-    }
-    let number = read::get_u32(xs, field::FILE_NUMBER_AT, big);
-    let filenumber = files::number_of(file);
-    if number.value != filenumber {
-        let needed = filenumber as u64;
-        return faults::number4(
-            refusal::BAD_FILES,
-            fault::FILE_NUMBER,
-            number,
-            needed,
-            needed,
-        );
-    }
+    let files = files::files_of(file);
+    judge_value(xs, field::FILES_AT, big, Field::Files, files)?;
+    let number = files::number_of(file);
+    judge_value(xs, field::FILE_NUMBER_AT, big, Field::FileNumber, number)?;
     let end = layout::meta1_end(n.value);
     if len < end {
-        return faults::not_as_needed(refusal::SHORT_META1, fault::IMAGE, len, len, end);
+        return Err(faults::not_as_needed(Refusal::ShortMeta1, Field::Image, len, len, end));
     }
-    faults::passes()
-}
-
-fn no_fixed(verdict: Verdict) -> Fixed
-    ensures { result ≡ record { verdict = verdict; head = no_head } }
-{
-    let head = heads::no_head();
-    Fixed { verdict, head }
+    Ok(Head {
+        order: big as u32,
+        version: read::get::<i32>(xs, field::VERSION_AT, big).value,
+        patch: read::get::<i32>(xs, field::PATCH_AT, big).value,
+        format: format.value,
+        blocksize: block.value,
+        n: n.value,
+        files,
+        file: number,
+    })
 }
 
 // Tests 1 to 7 and both of 3, of the file that the call means, from as many of the first bytes as META1 can have, or from all.
-pub fn judge_fixed(file: File, xs: &[u8], len: u64) -> Fixed
+pub fn judge_fixed(file: File, xs: &[u8], len: u64) -> Result<Head, Broken>
     requires { Covers len xs.now }
-    ensures { result ≡ fixed_gives file xs.now len }
+    ensures verdict { judged result ≡ verdict (fixed_tests xs.now file len) }
+    ensures head { IfOk result (λ h. h ≡ head_in xs.now) }
 {
-    let start = judge_start(xs, len);
-    if start.verdict.refusal != 0 {
-        return no_fixed(start.verdict);
-    }
-    let big = start.big;
-    let format = read::get_u32(xs, field::FORMAT_AT, big);
-    let blocksize = read::get_u32(xs, field::BLOCKSIZE_AT, big);
-    let n = read::get_u32(xs, field::TASKS_AT, big);
-    let verdict = judge_fields(file, xs, len, big, format, blocksize, n);
-    if verdict.refusal != 0 {
-        return no_fixed(verdict);
-    }
-    let order = big as u32;
-    let version = read::get_i32(xs, field::VERSION_AT, big).value;
-    let patch = read::get_i32(xs, field::PATCH_AT, big).value;
-    Fixed {
-        verdict,
-        head: Head {
-            order,
-            version,
-            patch,
-            format: format.value,
-            blocksize: blocksize.value,
-            n: n.value,
-            files: files::files_of(file),
-            file: files::number_of(file),
-        },
-    }
+    let big = judge_start(xs, len)?;
+    judge_fields(file, xs, len, big)
 }

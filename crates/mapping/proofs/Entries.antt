@@ -2,11 +2,11 @@
 use mathlib.Core.Path.{◌≡◌, ap, ◌∙◌}
 use mathlib.Core.Bool.{Bool, true, false, cond}
 use mathlib.Core.List.{List, ◌++◌}
-use Prim.Native.Nat.{ℕ, ◌+◌, ◌-◌, ◌*◌, ◌≤◌}
+use Prim.Native.Nat.{ℕ, ◌+◌, ◌-◌, ◌*◌, ◌≤◌, ◌<◌}
 use native.Mathlib.Omega.{arith}
 use lib.Dec.{ltb}
-use lib.ListN.{length, take, length-append}
-use lib.Seq.{take_at}
+use lib.ListN.{length, take, length-append, length-take}
+use lib.Seq.{take_at, get_or-take}
 use borrow.Author.Tests.{lt-ltb, le-ltb}
 use Rattle.endian.specs.Number.{digits}
 use Rattle.endian.proofs.Number.{length_digits}
@@ -37,14 +37,25 @@ task_small n holder = go (ltb n holder)
     go false = omega arith
 
 module _ (n m : ℕ) (rank rank' : ℕ → ℕ) where
-  -- each rank has a task in the row
-  pub all_held : n ≤ max_tasks → m ≤ max_tasks → none_lacking n m rank rank' ≡ true → AllHeld (n + m) (holders n m rank rank')
+  -- the part of the row that code goes through
+  abbrev pub row : List ℕ
+  row = take (n + m) (holders n m rank rank')
+
+  pub length_row : n ≤ max_tasks → m ≤ max_tasks → length row ≡ n + m
   unfolding holders
+  length_row few few' = rw (length-take, length_list) (omega arith)
+
+  row_at : n ≤ max_tasks → m ≤ max_tasks → (r : ℕ) → r < n + m → entry row r ≡ holder n m rank rank' r
+  row_at few few' r l = get_or-take (n + m) (holders n m rank rank') r 0 l ∙ holder_at n m rank rank' r (omega arith) l
+
+  -- each rank has a task in the row
+  pub all_held : n ≤ max_tasks → m ≤ max_tasks → none_lacking n m rank rank' ≡ true → AllHeld row
   all_held few few' none = record {
-    few = omega arith;
-    listed = rw length_list (omega arith);
-    some = λ r l. rw (holder_at n m rank rank' r (omega arith) l) (least r (place n m rank rank' none r l));
-    most = λ r l. rw (holder_at n m rank rank' r (omega arith) l) (most r (place n m rank rank' none r l));
+    few = omega (arith, length_row few few');
+    some = λ r l. let l : r < n + m = omega (arith, length_row few few') in rw (row_at few few' r l) (least r (place n m rank rank' none r l));
+    most = λ r l.
+        let l : r < n + m = omega (arith, length_row few few') in
+        rw (row_at few few' r l, length_row few few') (most r (place n m rank rank' none r l));
   }
     where
       least : (r : ℕ) → Place n m rank rank' r → 1 ≤ holder n m rank rank' r
@@ -70,10 +81,11 @@ module _ (n m : ℕ) (rank rank' : ℕ → ℕ) where
       rw (over, e, task)
 
   pub entries_are : (big : Bool) → n ≤ max_tasks → m ≤ max_tasks → none_lacking n m rank rank' ≡ true
-      → join_below (n + m) (λ r. entry_bytes big (ltb n (entry (holders n m rank rank') r)) (task_in n (entry (holders n m rank rank') r)))
+      → join_below (length row) (λ r. entry_bytes big (ltb n (entry row r)) (task_in n (entry row r)))
       ≡ join_below (n + m) (λ r. entry_bytes big (in_second n m rank rank' r) (local_rank n m rank rank' r))
   entries_are big few few' none =
-      join_cong _ _ (n + m) (λ r l. rw (holder_at n m rank rank' r (omega arith) l) (entry_is big r (place n m rank rank' none r l)))
+      rw (length_row few few')
+      (join_cong _ _ (n + m) (λ r l. rw (row_at few few' r l) (entry_is big r (place n m rank rank' none r l))))
 
   abbrev entries : Bool → List ℕ
   entries big = join_below (n + m) (λ r. entry_bytes big (in_second n m rank rank' r) (local_rank n m rank rank' r))

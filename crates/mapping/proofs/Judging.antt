@@ -1,65 +1,31 @@
--- Lists of tests that are asked one after the other, a signed number widened, and the tests of an entry by numbers that are read without a sign.
-use mathlib.Core.Path.{◌≡◌, refl, sym, ap, subst, ◌∙◌}
+-- A signed number widened, and the tests of an entry and of a whole mapping by numbers that are read without a sign.
+use mathlib.Core.Path.{◌≡◌, refl, ap, ◌∙◌}
 use mathlib.Core.Bool.{Bool, true, false, not}
 use mathlib.Core.List.{List, [], ◌∷◌}
-use mathlib.Core.Logic.{⊎_elim}
-use Prim.Native.Nat.{ℕ, zero, suc, ◌+◌, ◌-◌, ◌*◌, ◌≤◌, ◌<◌}
-use native.Mathlib.Nat.{not-suc-le-zero, eq-or-lt_of_le, le_of_suc-le-suc}
-use native.Mathlib.Numerals.{add-one}
+use Prim.Native.Nat.{ℕ, suc, ◌+◌, ◌-◌, ◌*◌, ◌≤◌, ◌<◌}
 use native.Mathlib.Omega.{arith}
 use lib.Dec.{ltb, leb, eqb}
 use lib.IntN.{ℤ, pos}
+use lib.ListN.{length}
 use mir.Facts.{sfits_widen, to_z-of_z}
 use mir.Syntax.{w32, w64}
 use mir.Val.{SFits, to_z, of_z}
-use borrow.Author.Tests.{le-leb, lt-leb, ltb-true, ltb-false, eq-eqb, ne_eqb, not-false}
+use borrow.Author.Tests.{le-leb, lt-leb, lt-ltb, le-ltb, ltb-true, ltb-false, eq-eqb, ne_eqb, not-false}
+use Rattle.lists.specs.Below.{join_below}
 use Rattle.endian.specs.Number.{number_at}
 use Rattle.endian.specs.Signed.{signed, within, natural}
 use Rattle.endian.proofs.Signed.{within_signed, natural_signed}
-use Rattle.lists.specs.Below.{join_below}
 use Rattle.format.specs.Limits.{max_tasks}
 use Rattle.format.specs.Kinds
-use Rattle.format.specs.Refusals.{Test, test_at, fault_of, first_failing, verdict, passed}
-use Rattle.format.proofs.Refusals.{Numbered, first_passes}
-use Rattle.format.proofs.Verdicts.{fails_first, passes_first, verdict_passes, verdict_fails, verdict_none, each_join}
+use Rattle.format.specs.Refusals.{Test, test_at, fault_of, verdict}
+use Rattle.format.specs.Judge.{is, number_fault, end_fault}
+use Rattle.format.proofs.Refusals.{Numbered}
+use Rattle.format.proofs.Verdicts.{fails_first, passes_first}
 use Rattle.format.proofs.Fields.{is_number, verdict_agree}
-use Rattle.pairs.specs.Mapping.{entry_tests}
+use Rattle.pairs.specs.Mapping.{mapping_length, entry_tests, mapping_tests}
 use Rattle.mapping.specs.Entries.{named_tests}
 
--- ---- lists of tests, asked until one of them fails
-
-module _ (f : ℕ → List Test) (numbered : (k : ℕ) → Numbered (f k)) where
-  all_numbered : (n : ℕ) → Numbered (join_below n f)
-  all_numbered = each_join _ f numbered
-
-  -- before the first list, after one more, at the end, and at the first list that has a test that fails
-  pub ask_none : first_failing (join_below 0 f) ≡ 0
-  unfolding join_below first_failing
-  ask_none = refl
-
-  pub ask_more : (k : ℕ) → first_failing (join_below k f) ≡ 0 → first_failing (f k) ≡ 0 → first_failing (join_below (k + 1) f) ≡ 0
-  unfolding join_below
-  ask_more k before here = rw add-one (first_passes (join_below k f) (f k) (all_numbered k) before ∙ here)
-
-  pub ask_all : (n : ℕ) → first_failing (join_below n f) ≡ 0 → verdict (join_below n f) ≡ passed
-  ask_all n e = verdict_none (join_below n f) (all_numbered n) e
-
-  pub ask_fails : (n k : ℕ) → k < n → first_failing (join_below k f) ≡ 0 → 0 < first_failing (f k) → verdict (join_below n f) ≡ verdict (f k)
-  unfolding join_below
-  ask_fails zero k l before here = absurd (not-suc-le-zero l)
-  ask_fails (suc n) k l before here =
-      ⊎_elim
-      (λ e. ap (λ (j : ℕ). verdict (join_below (suc j) f)) (sym e) ∙ verdict_passes (join_below k f) (f k) (all_numbered k) before)
-      (λ lt.
-      let same = ask_fails n k lt before here in
-      let number : first_failing (f k) ≡ first_failing (join_below n f) = λ i. (sym same i).refusal in
-      verdict_fails (join_below n f) (f n) (subst (λ (r : ℕ). 0 < r) number here) ∙ same)
-      (eq-or-lt_of_le (le_of_suc-le-suc l))
-
 -- ---- a signed number of 4 bytes keeps its value in 8
-
-pub wide_fits : {z : ℤ} → SFits w32 z → SFits w64 (to_z w32 (of_z w32 z))
-wide_fits f = subst (SFits w64) (sym (to_z-of_z f)) (sfits_widen tt f)
 
 pub wide_same : {z : ℤ} → SFits w32 z → to_z w64 (of_z w64 (to_z w32 (of_z w32 z))) ≡ z
 wide_same f = ap (λ (z : ℤ). to_z w64 (of_z w64 z)) (to_z-of_z f) ∙ to_z-of_z {w = w64} (sfits_widen tt f)
@@ -132,3 +98,49 @@ module _ (n m : ℕ) (rank rank' : ℕ → ℕ) (big : Bool) (image : List ℕ) 
   entry_second e some few =
       passes_first _ _ (ap not (file_passes (omega arith)))
       ∙ rw (is_number 0 31 file (omega arith) ∙ ne_eqb file 0 (λ z. omega arith)) (named_number m rank' task r at some few)
+
+-- ---- the whole mapping, whose size is read without a sign
+
+module _ (n m : ℕ) (rank rank' : ℕ → ℕ) (big : Bool) (image : List ℕ) (start : ℕ) where
+  abbrev held : ℕ
+  held = number_at big 4 image start
+
+  abbrev all_tests : List Test
+  all_tests = mapping_tests n m rank rank' big image start
+
+  abbrev end : ℕ
+  end = start + mapping_length n m
+
+  -- what its tests answer where the image ends before mapping_size does
+  pub ends_early : length image < start + 4 → verdict all_tests ≡ record { refusal = 25; fault = end_fault (length image) end }
+  unfolding mapping_tests
+  ends_early l = fails_first _ _ (lt-ltb (length image) (start + 4) l)
+
+  module _ (read : start + 4 ≤ length image) (few : n + m ≤ 2 * max_tasks) where
+    size_test : is (n + m) (signed 31 held) ≡ eqb held (n + m)
+    size_test = is_number (n + m) 31 held (omega arith)
+
+    -- where it says another size
+    pub other_size : (held ≡ n + m → ⊥)
+        → verdict all_tests ≡ record { refusal = 25; fault = number_fault Kinds.mapping_size start (signed 31 held) (n + m) (n + m) }
+    unfolding mapping_tests
+    other_size e =
+        passes_first _ _ (le-ltb (length image) (start + 4) read)
+        ∙ fails_first _ _ (ap not (size_test ∙ ne_eqb held (n + m) e))
+
+    module _ (same : held ≡ n + m) where
+      -- where the image ends before the entries do
+      pub ends_within : length image < end → verdict all_tests ≡ record { refusal = 25; fault = end_fault (length image) end }
+      unfolding mapping_tests
+      ends_within l =
+          passes_first _ _ (le-ltb (length image) (start + 4) read)
+          ∙ passes_first _ _ (ap not (size_test ∙ eq-eqb held (n + m) same))
+          ∙ fails_first _ _ (lt-ltb (length image) end l)
+
+      -- and where all entries are there
+      pub entries_asked : end ≤ length image → verdict all_tests ≡ verdict (join_below (n + m) (entry_tests n m rank rank' big image start))
+      unfolding mapping_tests
+      entries_asked l =
+          passes_first _ _ (le-ltb (length image) (start + 4) read)
+          ∙ passes_first _ _ (ap not (size_test ∙ eq-eqb held (n + m) same))
+          ∙ passes_first _ _ (le-ltb (length image) end l)

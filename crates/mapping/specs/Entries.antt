@@ -16,21 +16,19 @@ task_in n holder = cond (ltb n holder) (holder - n - 1) (holder - 1)
 unfoldable pub entry_bytes : Bool → Bool → ℕ → List ℕ
 entry_bytes big second task = signed_digits big 4 (pos (file_of_rank second)) ++ signed_digits big 4 (pos task)
 
--- each of so many ranks has a task
-pub record AllHeld (size : ℕ) (holders : List ℕ) : Type 0 where
-  pub few : size ≤ 2 * max_tasks
-  pub listed : size ≤ length holders
-  pub some : (r : ℕ) → r < size → 1 ≤ entry holders r
-  pub most : (r : ℕ) → r < size → entry holders r ≤ size
+-- each rank has a task in the row
+pub record AllHeld (holders : List ℕ) : Type 0 where
+  pub few : length holders ≤ 2 * max_tasks
+  pub some : (r : ℕ) → r < length holders → 1 ≤ entry holders r
+  pub most : (r : ℕ) → r < length holders → entry holders r ≤ length holders
 
 -- ---- judged: the tasks of a file, and the tests of the task that an entry names
 
--- a file has from 1 to the most tasks, and a rank in its range for each
-pub record Listed (n : ℕ) (ranks : List ℕ) : Type 0 where
-  pub some : 1 ≤ n
-  pub few : n ≤ max_tasks
-  pub listed : n ≤ length ranks
-  pub small : (i : ℕ) → i < n → entry ranks i ≤ max_rank
+-- a file has from 1 to the most tasks, each with a rank in its range
+pub record Listed (ranks : List ℕ) : Type 0 where
+  pub some : 1 ≤ length ranks
+  pub few : length ranks ≤ max_tasks
+  pub small : (i : ℕ) → i < length ranks → entry ranks i ≤ max_rank
 
 -- the last two of an entry's tests, by the number that is read for the task, without a sign
 abbrev pub named_tests : ℕ → (ℕ → ℕ) → ℕ → ℕ → ℕ → List Test

@@ -1,25 +1,18 @@
 -- META1's lists and last two fields as code judges them: what they give, and what is known of the first bytes as they are judged.
-use Rattle.std.specs.Prelude.{◌≡◌, cond, List, ℕ, ◌+◌, ◌*◌, ◌<◌, eqb}
+use Rattle.std.specs.Prelude.{◌≡◌, List, ℕ, ◌+◌, ◌*◌, ◌<◌}
 use Rattle.endian.specs.Number.{number_at}
 use Rattle.format.specs.Limits.{Sound}
 use Rattle.format.specs.declared.head.Head.{Head}
 use Rattle.meta1.specs.declared.Last.{Last}
 use Rattle.front.specs.Judging.{HeadRead}
-use Rattle.format.specs.declared.fault.Verdict.{Verdict}
-use Rattle.format.specs.Refusals.{first_failing, verdict}
+use Rattle.format.specs.Refusals.{first_failing}
 use Rattle.format.specs.Meta1
 use Rattle.format.specs.Record.{entry, lists_of, is_big}
-use Rattle.format.specs.Judge.{maxchunks_in, meta2_in, size_in, rank_tests, requested_tests, rest_tests}
+use Rattle.format.specs.Judge.{maxchunks_in, meta2_in, size_in, rank_tests, requested_tests}
 
-module _ (xs : List ℕ) where
-  -- what they give by their verdict, and zeros where they do not pass: maxchunks and META2's start
-  abbrev pub rest_by : Verdict → Last
-  rest_by v =
-      cond (eqb v.refusal 0) (record { verdict = v; maxchunks = maxchunks_in xs; start = meta2_in xs })
-      (record { verdict = v; maxchunks = 0; start = 0 })
-
-  unfoldable pub rest_gives : ℕ → Last
-  rest_gives len = rest_by (verdict (rest_tests xs len))
+-- what the last two fields are where they pass: maxchunks, and META2's start
+abbrev pub last_in : List ℕ → Last
+last_in xs = record { maxchunks = maxchunks_in xs; start = meta2_in xs }
 
 -- ranks and sizes as they stand, read without a sign, in lists with no count
 unfoldable pub lists_read : List ℕ → Head → List ℕ

@@ -4,12 +4,11 @@ use Rattle.endian.specs.Number.{number_at}
 use Rattle.format.specs.Limits.{max_blocks, Sound}
 use Rattle.format.specs.Layout.{meta2_length}
 use Rattle.format.specs.declared.head.Head.{Head}
-use Rattle.format.specs.Record.{all_lists, sizes_of, count_of, is_big}
+use Rattle.format.specs.Record.{sizes_of, count_of, is_big}
 use Rattle.format.specs.Judge.{count_in}
 
 -- META1 passed: the part is whole, starts at `at` of the image, and the lists have the sizes
 pub record Meta2There (part : List ℕ) (at : ℕ) (h : Head) (maxchunks : ℕ) (lists : List ℕ) : Type 0 where
-  pub as_many : length lists ≡ all_lists
   pub sound : Sound h.blocksize h.n (sizes_of lists)
   pub small : maxchunks ≤ max_blocks
   pub whole : meta2_length h.n maxchunks ≤ length part

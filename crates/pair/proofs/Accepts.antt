@@ -6,7 +6,7 @@ use lib.IntN.{ℤ}
 use lib.ListN.{length}
 use Rattle.format.specs.declared.head.File.{File}
 use Rattle.format.specs.declared.head.File.TheVariants.{First, Second}
-use Rattle.format.specs.declared.fault.Verdict.{Verdict}
+use Rattle.format.specs.Refusals.{Verdict}
 use Rattle.format.specs.declared.loaded.LoadAnswer.{LoadAnswer}
 use Rattle.format.specs.Refusals.{no_fault, first_failing}
 use Rattle.format.specs.Judge.{rank_in}

@@ -6,7 +6,7 @@ use native.Mathlib.Omega.{arith}
 use borrow.Author.Tests.{ne_eqb}
 use lib.IntN.{ℤ}
 use lib.ListN.{length}
-use Rattle.format.specs.declared.fault.Verdict.{Verdict}
+use Rattle.format.specs.Refusals.{Verdict}
 use Rattle.format.specs.declared.head.File.{File}
 use Rattle.format.specs.declared.head.File.TheVariants.{First, Second}
 use Rattle.format.specs.declared.loaded.LoadAnswer.{LoadAnswer}

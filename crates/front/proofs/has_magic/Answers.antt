@@ -1,31 +1,24 @@
--- The loop's invariant: the bytes passed are the magic number's. The measure is the bytes left.
-use borrow.Author.Rules.{rules}
-use borrow.Author.Tests.{eq-eqb, ne_eqb}
-use lib.Dec.{eqb}
-use lib.ListN.{length, get_or}
-use Rattle.lists.proofs.Below.{all_none, all_more, all_end, all_fails}
+-- The four bytes compared with the magic number's are the test of each.
+use mathlib.Core.Path.{◌≡◌, ◌∙◌}
+use mathlib.Core.List.{List, [], ◌∷◌}
+use Prim.Native.Nat.{ℕ, ◌≤◌}
+use native.Mathlib.Omega.{arith}
+use lib.ListN.{length}
+use Rattle.std.proofs.Common.{nat_eq}
+use Rattle.std.specs.List.{starts_with}
+use Rattle.std.proofs.lemmas.Bool.Decides.{nat_tests}
+use Rattle.lists.specs.Below.{all_below}
 use Rattle.format.specs.Meta1.{magic}
 use Rattle.format.specs.Judge.{magic_in}
 use Rattle.front.proofs.has_magic.Goals as goal
 
-pub loop-i-init : goal.loop-i-init
-loop-i-init c = (search rules, all_none _)
-
-pub returns-then-xs-i : goal.returns-then-xs-i
-unfolding magic_in
-returns-then-xs-i c =
-    let xs = c.args.xs.now in
-    let i = c.loop-i.i in
-    all_fails (λ j. eqb (get_or xs j 0) (get_or magic j 0)) {n = length magic} i c.loop-i-test.true (ne_eqb (get_or xs i 0) (get_or magic i 0) c.if-xs-i.true)
-
-pub loop-i-preserved : goal.loop-i-preserved
-loop-i-preserved c =
-    let xs = c.args.xs.now in
-    let i = c.loop-i.i in (
-      search rules,
-      all_more _ i c.loop-i.invariant.1 (eq-eqb (get_or xs i 0) (get_or magic i 0) c.if-xs-i.false),
-    )
+starts_in : (xs : List ℕ) → 4 ≤ length xs → starts_with nat_eq xs magic ≡ magic_in xs
+unfolding magic_in all_below
+starts_in [] l = absurd (omega arith)
+starts_in (a ∷ []) l = absurd (omega arith)
+starts_in (a ∷ b ∷ []) l = absurd (omega arith)
+starts_in (a ∷ b ∷ c ∷ []) l = absurd (omega arith)
+starts_in (a ∷ b ∷ c ∷ d ∷ xs) l = grind (arith, nat_tests)
 
 pub returns : goal.returns
-unfolding magic_in
-returns c = all_end _ (search rules) (search rules) c.loop-i.invariant.1
+returns c = c.starts_with.ensures.value ∙ starts_in c.args.xs.now c.requires

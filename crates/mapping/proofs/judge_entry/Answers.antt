@@ -1,49 +1,50 @@
 -- Each return, by the file that the entry names.
 use mathlib.Core.Path.{◌≡◌, sym, ◌∙◌}
+use mathlib.Core.List.{List}
 use Prim.Native.Nat.{ℕ, suc, ◌+◌, ◌*◌}
 use native.Mathlib.Omega.{arith}
 use borrow.Author.Rules.{sfits_of}
 use lib.IntN.{pos}
+use lib.ListN.{length}
 use Rattle.endian.specs.Number.{number_at}
 use Rattle.endian.specs.Signed.{signed}
 use Rattle.format.specs.Kinds
 use Rattle.format.specs.Record.{entry}
 use Rattle.format.specs.Refusals.{fault_of, verdict}
+use Rattle.format.proofs.Judged.{verdict_of}
 use Rattle.mapping.specs.Entries.{named_tests}
 use Rattle.mapping.proofs.Judging.{wide_same, entry_other, entry_first, entry_second}
 use Rattle.mapping.proofs.judge_entry.Goals as goal
+use Rattle.mapping.proofs.judge_entry.Goals.{in-0, in-1}
 
-pub returns-then-file-gt1 : goal.returns-then-file-gt1
-returns-then-file-gt1 c =
-    let at : ℕ = let a = c.args in a.start + 4 + 8 * a.rank in
-    let file_is : let a = c.args in c.get_u32-file.result.value ≡ number_at a.big 4 a.image.now at = λ i. (c.get_u32-file.ensures i).value in
+pub returns-in_default : goal.returns-in_default
+returns-in_default c =
     let a = c.args in
+    let at : ℕ = a.start + 4 + 8 * a.rank in
+    let file_is : c.get-file.result.value ≡ number_at a.big 4 a.image.now at = λ i. (c.get-file.ensures i).value in
     let says = wide_same (sfits_of c.signed32-says.type_inv) ∙ c.signed32-says.ensures ∙ (λ i. signed 31 (file_is i)) in
-    c.bad_entry.ensures
+    (λ i. verdict_of (c.bad_entry.ensures i))
     ∙ (λ i. record { refusal = 25; fault = fault_of Kinds.entry_file (suc a.rank) 0 at (says i) (pos 0) (pos 1) })
-    ∙ sym (entry_other a.n a.m (entry a.first.now) (entry a.second.now) a.big a.image.now a.start a.rank
-    (omega (arith, file_is, c.if-file-gt1.true)))
-
-pub returns-then-file-eq0 : goal.returns-then-file-eq0
-returns-then-file-eq0 c =
-    let at : ℕ = let a = c.args in a.start + 4 + 8 * a.rank in
-    let task_is : let a = c.args in c.get_u32-task.result.value ≡ number_at a.big 4 a.image.now (at + 4) = λ i. (c.get_u32-task.ensures i).value in
-    let file_is : let a = c.args in c.get_u32-file.result.value ≡ number_at a.big 4 a.image.now at = λ i. (c.get_u32-file.ensures i).value in
-    let a = c.args in
-    let named = c.requires.0 in
-    c.judge_task.ensures
-    ∙ (λ i. verdict (named_tests a.n (entry a.first.now) (task_is i) a.rank at))
-    ∙ sym (entry_first a.n a.m (entry a.first.now) (entry a.second.now) a.big a.image.now a.start a.rank
-    (sym file_is ∙ c.if-file-eq0.true) named.some named.few)
+    ∙ sym (entry_other (length a.first.now) (length a.second.now) (entry a.first.now) (entry a.second.now) a.big a.image.now a.start a.rank
+    (omega (arith, file_is)))
 
 pub returns : goal.returns
 returns c =
-    let at : ℕ = let a = c.args in a.start + 4 + 8 * a.rank in
-    let task_is : let a = c.args in c.get_u32-task.result.value ≡ number_at a.big 4 a.image.now (at + 4) = λ i. (c.get_u32-task.ensures i).value in
-    let file_is : let a = c.args in c.get_u32-file.result.value ≡ number_at a.big 4 a.image.now at = λ i. (c.get_u32-file.ensures i).value in
     let a = c.args in
-    let named = c.requires.1 in
-    c.judge_task-2.ensures
-    ∙ (λ i. verdict (named_tests a.m (entry a.second.now) (task_is i) a.rank at))
-    ∙ sym (entry_second a.n a.m (entry a.first.now) (entry a.second.now) a.big a.image.now a.start a.rank
-    (omega (arith, file_is, c.if-file-eq0.false, c.if-file-gt1.false)) named.some named.few)
+    let at : ℕ = a.start + 4 + 8 * a.rank in
+    let file_is : c.get-file.result.value ≡ number_at a.big 4 a.image.now at = λ i. (c.get-file.ensures i).value in
+    let task_is : c.get-task.result.value ≡ number_at a.big 4 a.image.now (at + 4) = λ i. (c.get-task.ensures i).value in
+    let judged = λ (xs : List ℕ) (is : c.match-file.ranks.now ≡ xs).
+    c.judge_task.ensures ∙ (λ i. verdict (named_tests (length (is i)) (entry (is i)) (task_is i) a.rank at)) in
+    elim c.match-file.branch [
+      | in-0 w ↦
+          let named = c.requires.0 in
+          judged a.first.now (λ i. (w.ranks-is i).now)
+          ∙ sym (entry_first (length a.first.now) (length a.second.now) (entry a.first.now) (entry a.second.now) a.big a.image.now a.start a.rank
+          (sym file_is ∙ w.in-0.is) named.some named.few)
+      | in-1 w ↦
+          let named = c.requires.1 in
+          judged a.second.now (λ i. (w.ranks-is i).now)
+          ∙ sym (entry_second (length a.first.now) (length a.second.now) (entry a.first.now) (entry a.second.now) a.big a.image.now a.start a.rank
+          (sym file_is ∙ w.in-1.is) named.some named.few)
+    ]

@@ -1,4 +1,4 @@
--- The loop's invariant: the entries of the ranks passed stand one after the other. The measure is the ranks left.
+-- The loop's invariant: the entries of the ranks passed stand one after the other.
 use mathlib.Core.Path.{◌≡◌, refl, ap, ◌∙◌}
 use mathlib.Core.Bool.{Bool}
 use mathlib.Core.List.{List}
@@ -24,7 +24,7 @@ same holders n big r = length_entry big _ _
 pub loop-r-init : goal.loop-r-init
 loop-r-init c =
     let a = c.args in
-    (omega arith, refl, join_none a.bytes.now 4 8 (of a.holders.now a.n a.big) (same a.holders.now a.n a.big))
+    (refl, join_none a.bytes.now 4 8 (of a.holders.now a.n a.big) (same a.holders.now a.n a.big))
 
 pub overflow_cast-task : goal.overflow_cast-task
 overflow_cast-task c =
@@ -44,9 +44,8 @@ loop-r-preserved c =
     let l = c.loop-r in
     let a = c.args in
     let holder : ℕ = entry a.holders.now l.r in (
-      omega arith,
       search rules,
-      join_then a.bytes.now 4 8 (of a.holders.now a.n a.big) (same a.holders.now a.n a.big) l.r l.invariant.2
+      join_then a.bytes.now 4 8 (of a.holders.now a.n a.big) (same a.holders.now a.n a.big) l.r l.invariant.1
           (c.put_entry.ensures ∙ ap (λ (task : ℕ). splice l.bytes (4 + 8 * l.r) (entry_bytes a.big (ltb a.n holder) task)) c.task_in-task.ensures)
-          (omega (arith, c.requires.1)),
+          (omega (arith, c.requires.1, c.loop-r-test.true)),
     )

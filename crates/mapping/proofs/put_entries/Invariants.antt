@@ -1,6 +1,5 @@
--- The loop's invariant: the entries of the ranks passed stand one after the other. The measure is the ranks left.
+-- The loop's invariant: the entries of the ranks passed stand one after the other.
 use mathlib.Core.Path.{◌≡◌}
-use Prim.Native.Nat.{◌-◌, ◌≤◌}
 use lib.Dec.{ltb}
 use lib.ListN.{length}
 use Rattle.lists.specs.Below.{join_below}
@@ -11,8 +10,5 @@ use Rattle.mapping.proofs.put_entries.Given as goal
 
 abbrev pub invariant-loop-r : goal.invariant-loop-r
 invariant-loop-r l =
-    (l.r ≤ l.size) × (length l.bytes ≡ length l.initial.bytes)
+    (length l.bytes ≡ length l.initial.bytes)
     × (l.bytes ≡ splice l.initial.bytes 4 (join_below l.r (λ r. entry_bytes l.big (ltb l.n (entry l.holders r)) (task_in l.n (entry l.holders r)))))
-
-abbrev pub decreases-loop-r : goal.decreases-loop-r
-decreases-loop-r l = l.size - l.r

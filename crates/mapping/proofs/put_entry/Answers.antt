@@ -23,5 +23,5 @@ returns c =
     let xs = a.bytes.now in
     let wide = length_digits a.big 4 in
     let file = put_first xs a.at (digits a.big 4 (file_of_rank a.second)) 4 (wide _)
-    (c.put_u32.ensures ∙ ap (λ (v : ℕ). splice xs a.at (digits a.big 4 v)) (number_of a.second)) in
-    (put_then xs a.at _ _ 4 file (wide a.task) c.put_u32-2.ensures (omega (arith, c.requires))).0
+    (c.put.ensures ∙ ap (λ (v : ℕ). splice xs a.at (digits a.big 4 v)) (number_of a.second)) in
+    (put_then xs a.at _ _ 4 file (wide a.task) c.put-2.ensures (omega (arith, c.requires))).0

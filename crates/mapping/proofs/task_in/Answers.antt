@@ -7,6 +7,6 @@ pub returns-then-n-holder : goal.returns-then-n-holder
 unfolding task_in
 returns-then-n-holder c = rw (lt-ltb c.args.n c.args.holder c.if-n-holder.true)
 
-pub returns : goal.returns
+pub returns-else-n-holder : goal.returns-else-n-holder
 unfolding task_in
-returns c = rw (le-ltb c.args.n c.args.holder c.if-n-holder.false)
+returns-else-n-holder c = rw (le-ltb c.args.n c.args.holder c.if-n-holder.false)

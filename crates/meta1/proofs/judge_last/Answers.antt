@@ -1,29 +1,34 @@
 -- The last two fields by their unsigned readings.
 use mathlib.Core.Path.{◌≡◌, ap, ap₂, sym, ◌∙◌}
-use mathlib.Core.Bool.{true}
+use mathlib.Core.Bool.{true, false, not}
+use mathlib.Core.List.{List}
 use Prim.Native.Nat.{ℕ, ◌+◌, ◌≤◌, ◌<◌, ◌^◌}
 use native.Mathlib.Omega.{arith}
+use borrow.Author.Tests.{lt-ltb, le-ltb, eq-eqb, ne_eqb}
+use lib.Dec.{eqb, ltb}
 use lib.IntN.{pos}
-use lib.ListN.{length}
+use lib.ListN.{length, get_or}
 use Rattle.endian.specs.Number.{number_at}
 use Rattle.endian.specs.Signed.{signed}
-use Rattle.format.specs.declared.fault.Verdict.{Verdict}
+use Rattle.endian.specs.declared.read.Read.{Read}
+use Rattle.format.specs.declared.refusal.Refusal.TheVariants.{NotClosed, BadMaxchunks, BadMeta2Place}
+use Rattle.format.specs.declared.refusal.Refusal.{Refusal}
+use Rattle.format.specs.declared.fault.Broken.{Broken}
+use Rattle.format.specs.declared.head.Head.{Head}
 use Rattle.format.specs.Kinds
-use Rattle.format.specs.Limits.{max_blocks, maxchunks_rule}
-use Rattle.format.specs.Meta1.{last_at, start_at}
-use Rattle.format.specs.Judge.{max_start, number_fault, end_fault}
-use Rattle.meta1.specs.declared.Last.{Last}
-use Rattle.format.specs.Layout.{meta1_end, meta2_end}
-use Rattle.format.proofs.Chunks.{meta2_end_small}
-use Rattle.format.specs.Record.{entry, is_big, meta2_at, end_at}
+use Rattle.format.specs.Limits.{maxchunks_rule}
+use Rattle.format.specs.Layout.{meta1_end, meta2_start, meta2_length, meta2_end}
+use Rattle.format.specs.Meta1.{last_at}
+use Rattle.format.specs.Record.{is_big, meta2_at, end_at}
+use Rattle.format.specs.Refusals.{test_at, number_of, verdict}
+use Rattle.format.specs.Judge.{number_fault, end_fault, last_tests}
 use Rattle.format.proofs.Fields.{maxchunks_facts}
-use Rattle.meta1.proofs.Answers.{LastRead, not_closed, bad_maxchunks, start_wrong, past_end, accepted_last}
+use Rattle.format.proofs.Verdicts.{fails_first, passes_first, passes_last}
+use Rattle.format.proofs.Judged.{verdict_of}
+use Rattle.front.proofs.Answers.{ruled, said}
+use Rattle.meta1.proofs.Answers.{maxchunks, start, place, end, place_small, end_small, start_fault, from_12, last_unsigned, last_read}
 use Rattle.meta1.proofs.judge_last.Goals as goal
-use Rattle.meta1.proofs.judge_last.Goals.{Start}
-
--- what is given with a verdict that does not pass
-abbrev none : Verdict → Last
-none v = record { verdict = v; maxchunks = 0; start = 0 }
+use Rattle.meta1.proofs.judge_last.Goals.{Start, After-get-start, After-get-chunks, After-meta2_start-place, After-meta2_length}
 
 -- META1 is there whole
 long : (s : Start) → meta1_end s.args.h.n ≤ length s.args.xs.now
@@ -31,165 +36,134 @@ unfolding meta1_end
 long s = let few = s.requires.sound.tasks in
     s.requires.head.covers (meta1_end s.args.h.n) s.requires.head.long (omega arith)
 
-pub get_u32-maxchunks-requires : goal.get_u32-maxchunks-requires
+pub get-start-requires : goal.get-start-requires
 unfolding meta1_end
-get_u32-maxchunks-requires c =
-    let s : Start = (goal.at.get_u32-maxchunks-requires c).Start in
-    omega (arith, long s, c.last_at-at.ensures)
+get-start-requires c = omega (arith, long (goal.at.get-start-requires c).Start, c.last_at-at.ensures)
 
-pub get_u64-start-requires : goal.get_u64-start-requires
-unfolding meta1_end
-get_u64-start-requires c =
-    let s : Start = (goal.at.get_u64-start-requires c).Start in
-    omega (arith, long s, c.last_at-at.ensures)
+-- the two fields where they stand
+abbrev start_read : Head → List ℕ → ℕ → Read ℕ
+start_read h xs at = record { value = number_at (is_big h) 8 xs (at + 4); at = at + 4 }
 
-pub returns-then-says-eq0 : goal.returns-then-says-eq0
-returns-then-says-eq0 c =
-    let start_here : c.get_u64-start.result.at ≡ start_at c.args.h.n =
-    (λ i. (c.get_u64-start.ensures i).at) ∙ ap (λ (at : ℕ). at + 4) c.last_at-at.ensures in
-    let read : let a = c.args in
-    LastRead a.xs.now a.len a.h a.sizes.now c.get_u32-maxchunks.result.value c.get_u64-start.result.value = let a = c.args in
-    let at = c.last_at-at.result in
-    let m : c.get_u32-maxchunks.result.value ≡ number_at (is_big a.h) 4 a.xs.now at = λ i. (c.get_u32-maxchunks.ensures i).value in
-    let first : c.get_u64-start.result.value ≡ number_at (is_big a.h) 8 a.xs.now (at + 4) = λ i. (c.get_u64-start.ensures i).value in
-    record {
-      passed = c.requires;
-      maxchunks_is = m ∙ ap (number_at (is_big a.h) 4 a.xs.now) c.last_at-at.ensures;
-      start_is = first ∙ ap (λ (at : ℕ). number_at (is_big a.h) 8 a.xs.now (at + 4)) c.last_at-at.ensures;
-    } in
-    c.bad_start.ensures
-    ∙ (λ i. none (record { refusal = 10; fault = number_fault Kinds.start (start_here i) (signed 63 c.get_u64-start.result.value) 1 max_start }))
-    ∙ not_closed read c.if-says-eq0.true
+abbrev chunks_read : Head → List ℕ → ℕ → Read ℕ
+chunks_read h xs at = record { value = number_at (is_big h) 4 xs at; at = at }
 
-pub returns-then-not-maxchunks_ok : goal.returns-then-not-maxchunks_ok
-returns-then-not-maxchunks_ok c =
-    let maxchunks_at : c.get_u32-maxchunks.result.at ≡ last_at c.args.h.n = (λ i. (c.get_u32-maxchunks.ensures i).at) ∙ c.last_at-at.ensures in
-    let read : let a = c.args in
-    LastRead a.xs.now a.len a.h a.sizes.now c.get_u32-maxchunks.result.value c.get_u64-start.result.value = let a = c.args in
-    let at = c.last_at-at.result in
-    let m : c.get_u32-maxchunks.result.value ≡ number_at (is_big a.h) 4 a.xs.now at = λ i. (c.get_u32-maxchunks.ensures i).value in
-    let first : c.get_u64-start.result.value ≡ number_at (is_big a.h) 8 a.xs.now (at + 4) = λ i. (c.get_u64-start.ensures i).value in
-    record {
-      passed = c.requires;
-      maxchunks_is = m ∙ ap (number_at (is_big a.h) 4 a.xs.now) c.last_at-at.ensures;
-      start_is = first ∙ ap (λ (at : ℕ). number_at (is_big a.h) 8 a.xs.now (at + 4)) c.last_at-at.ensures;
-    } in
-    c.no_last.ensures
-    ∙ (λ i. none (c.number4.ensures i))
-    ∙ (λ i. none (record {
-      refusal = 11;
-      fault = number_fault Kinds.maxchunks (maxchunks_at i) (signed 31 c.get_u32-maxchunks.result.value) 0 max_blocks;
-    }))
-    ∙ bad_maxchunks read c.if-says-eq0.false (sym c.maxchunks_ok.ensures ∙ c.if-not-maxchunks_ok.true)
+found_start : (c : After-get-start) → c.get-start.result ≡ start_read c.args.h c.args.xs.now (last_at c.args.h.n)
+found_start c = c.get-start.ensures ∙ ap (start_read c.args.h c.args.xs.now) c.last_at-at.ensures
+
+found_chunks : (c : After-get-chunks) → c.get-chunks.result ≡ chunks_read c.args.h c.args.xs.now (last_at c.args.h.n)
+found_chunks c = c.get-chunks.ensures ∙ ap (chunks_read c.args.h c.args.xs.now) c.last_at-at.ensures
+
+-- what is broken of start_of_varheader is said of the number in the file
+start_said : (r : Refusal) (least most : ℕ) {b : Broken} {read : Read ℕ} {value at : ℕ} → read ≡ record { value = value; at = at }
+    → b ≡ record { refusal = r; fault = number_fault Kinds.start read.at (signed 63 read.value) least most }
+    → verdict_of b ≡ record { refusal = number_of r; fault = number_fault Kinds.start at (signed 63 value) least most }
+start_said r least most is e =
+    ap verdict_of e ∙ (λ i. record { refusal = number_of r; fault = number_fault Kinds.start (is i).at (signed 63 (is i).value) least most })
+
+pub returns-then-start-eq0-clause-verdict : goal.returns-then-start-eq0-clause-verdict
+returns-then-start-eq0-clause-verdict c =
+    let found = found_start (goal.at.returns-then-start-eq0-clause-verdict c).After-get-start in
+    let none : start c.requires ≡ 0 = (λ i. (sym found i).value) ∙ c.if-start-eq0.true in
+    start_said NotClosed _ _ found c.bad_start.ensures ∙ sym (last_unsigned c.requires ∙ fails_first _ _ (eq-eqb _ 0 none))
+
+-- it is not 0, so 10 passed
+closed : (c : After-get-chunks) → eqb (start c.requires) 0 ≡ false
+closed c =
+    let found = c.get-start.ensures ∙ ap (start_read c.args.h c.args.xs.now) c.last_at-at.ensures in
+    ne_eqb (start c.requires) 0 (λ e. c.if-start-eq0.false ((λ i. (found i).value) ∙ e))
+
+pub returns-then-not-maxchunks_ok-clause-verdict : goal.returns-then-not-maxchunks_ok-clause-verdict
+returns-then-not-maxchunks_ok-clause-verdict c =
+    let at = (goal.at.returns-then-not-maxchunks_ok-clause-verdict c).After-get-chunks in
+    said BadMaxchunks Kinds.maxchunks _ _ (found_chunks at) c.number4.ensures
+    ∙ sym (last_unsigned c.requires
+    ∙ passes_first _ _ (closed at)
+    ∙ fails_first _ _ (ruled maxchunks_rule (found_chunks at) c.if-not-maxchunks_ok.ensures))
 
 pub meta2_start-place-requires : goal.meta2_start-place-requires
-meta2_start-place-requires c =
-    let counted : maxchunks_rule (pos c.get_u32-maxchunks.result.value) ≡ true = sym c.maxchunks_ok.ensures ∙ c.if-not-maxchunks_ok.false in
-    (c.requires.sound, maxchunks_facts _ counted)
+meta2_start-place-requires c = maxchunks_facts _ (sym c.if-not-maxchunks_ok.ensures)
 
-pub bad_start-requires-then-says-place : goal.bad_start-requires-then-says-place
-unfolding meta2_at meta2_end
-bad_start-requires-then-says-place c =
-    let found : let a = c.args in
-    c.meta2_start-place.result ≡ meta2_at a.h (entry a.sizes.now) c.get_u32-maxchunks.result.value = c.meta2_start-place.ensures in
-    let counted : maxchunks_rule (pos c.get_u32-maxchunks.result.value) ≡ true = sym c.maxchunks_ok.ensures ∙ c.if-not-maxchunks_ok.false in
-    let small : c.meta2_start-place.result < 2 ^ 63 = omega (arith, found, meta2_end_small c.requires.sound _ (maxchunks_facts _ counted)) in
+-- 11 passed too
+counted : (c : After-meta2_start-place) → maxchunks_rule (pos (maxchunks c.requires)) ≡ true
+counted c =
+    (λ i. maxchunks_rule (pos (sym (c.get-chunks.ensures ∙ ap (chunks_read c.args.h c.args.xs.now) c.last_at-at.ensures) i).value))
+    ∙ sym c.if-not-maxchunks_ok.ensures
+
+asked_12 : (c : After-get-chunks) → maxchunks_rule (pos (maxchunks c.requires)) ≡ true
+    → verdict (last_tests c.args.xs.now c.args.len) ≡ verdict (from_12 c.requires)
+asked_12 c e = last_unsigned c.requires ∙ passes_first _ _ (closed c) ∙ passes_first _ _ (ap not e)
+
+-- META2's start and its end
+placed : (c : After-meta2_start-place) → c.meta2_start-place.result ≡ place c.requires
+unfolding meta2_at
+placed c =
+    let chunks = c.get-chunks.ensures ∙ ap (chunks_read c.args.h c.args.xs.now) c.last_at-at.ensures in
+    c.meta2_start-place.ensures
+    ∙ (λ i. meta2_start (c.of.ensures.blocksize i) (c.of.ensures.n i) (λ j. get_or (c.of.ensures.sizes i) j 0) (chunks i).value)
+
+ended : (c : After-meta2_length) → c.meta2_start-place.result ≡ place c.requires → c.meta2_start-place.result + c.meta2_length.result ≡ end c.requires
+unfolding meta2_at end_at meta2_end
+ended c e =
+    let chunks = c.get-chunks.ensures ∙ ap (chunks_read c.args.h c.args.xs.now) c.last_at-at.ensures in
+    ap₂ (λ (x y : ℕ). x + y) e (c.meta2_length.ensures ∙ (λ i. meta2_length c.args.h.n (chunks i).value))
+
+pub bad_start-requires-then-start-place : goal.bad_start-requires-then-start-place
+bad_start-requires-then-start-place c =
+    let at = (goal.at.bad_start-requires-then-start-place c).After-meta2_start-place in
+    let small : c.meta2_start-place.result < 2 ^ 63 = rw (placed at) (place_small c.requires (counted at)) in
     (small, small)
 
-pub returns-then-says-place : goal.returns-then-says-place
-unfolding meta2_at
-returns-then-says-place c =
-    let start_here : c.get_u64-start.result.at ≡ start_at c.args.h.n =
-    (λ i. (c.get_u64-start.ensures i).at) ∙ ap (λ (at : ℕ). at + 4) c.last_at-at.ensures in
-    let found : let a = c.args in
-    c.meta2_start-place.result ≡ meta2_at a.h (entry a.sizes.now) c.get_u32-maxchunks.result.value = c.meta2_start-place.ensures in
-    let read : let a = c.args in
-    LastRead a.xs.now a.len a.h a.sizes.now c.get_u32-maxchunks.result.value c.get_u64-start.result.value = let a = c.args in
-    let at = c.last_at-at.result in
-    let m : c.get_u32-maxchunks.result.value ≡ number_at (is_big a.h) 4 a.xs.now at = λ i. (c.get_u32-maxchunks.ensures i).value in
-    let first : c.get_u64-start.result.value ≡ number_at (is_big a.h) 8 a.xs.now (at + 4) = λ i. (c.get_u64-start.ensures i).value in
-    record {
-      passed = c.requires;
-      maxchunks_is = m ∙ ap (number_at (is_big a.h) 4 a.xs.now) c.last_at-at.ensures;
-      start_is = first ∙ ap (λ (at : ℕ). number_at (is_big a.h) 8 a.xs.now (at + 4)) c.last_at-at.ensures;
-    } in
-    let counted : maxchunks_rule (pos c.get_u32-maxchunks.result.value) ≡ true = sym c.maxchunks_ok.ensures ∙ c.if-not-maxchunks_ok.false in
-    c.bad_start-then-says-place.ensures
-    ∙ (λ i. none (record {
-      refusal = 12;
-      fault = number_fault Kinds.start (start_here i) (signed 63 c.get_u64-start.result.value) (found i) (found i);
-    }))
-    ∙ start_wrong read c.if-says-eq0.false counted (λ d. c.if-says-place.true (d ∙ sym found))
+pub returns-then-start-place-clause-verdict : goal.returns-then-start-place-clause-verdict
+returns-then-start-place-clause-verdict c =
+    let at = goal.at.returns-then-start-place-clause-verdict c in
+    let found = found_start at.After-get-start in
+    let there = placed at.After-meta2_start-place in
+    let differs : start c.requires ≡ place c.requires → ⊥ = λ e. c.if-start-place.true ((λ i. (found i).value) ∙ e ∙ sym there) in
+    start_said BadMeta2Place _ _ found c.bad_start-then-start-place.ensures
+    ∙ (λ i. record { refusal = 12; fault = start_fault c.requires (there i) (there i) })
+    ∙ sym (asked_12 at.After-get-chunks (counted at.After-meta2_start-place) ∙ fails_first _ _ (ap not (ne_eqb _ _ differs)))
 
 pub meta2_length-requires : goal.meta2_length-requires
-meta2_length-requires c =
-    let counted : maxchunks_rule (pos c.get_u32-maxchunks.result.value) ≡ true = sym c.maxchunks_ok.ensures ∙ c.if-not-maxchunks_ok.false in
-    (c.requires.sound.tasks, maxchunks_facts _ counted)
+meta2_length-requires c = (c.requires.sound.tasks, maxchunks_facts _ (sym c.if-not-maxchunks_ok.ensures))
 
 pub overflow_add-end : goal.overflow_add-end
-unfolding end_at meta2_end
 overflow_add-end c =
-    let end : let a = c.args in
-    c.meta2_start-place.result + c.meta2_length.result ≡ end_at a.h (entry a.sizes.now) c.get_u32-maxchunks.result.value =
-    ap₂ (λ (x y : ℕ). x + y) c.meta2_start-place.ensures c.meta2_length.ensures in
-    let counted : maxchunks_rule (pos c.get_u32-maxchunks.result.value) ≡ true = sym c.maxchunks_ok.ensures ∙ c.if-not-maxchunks_ok.false in
-    let end_small : c.meta2_start-place.result + c.meta2_length.result < 2 ^ 63 =
-    rw end (omega (arith, meta2_end_small c.requires.sound _ (maxchunks_facts _ counted))) in
-    omega (arith, end_small)
+    let at = goal.at.overflow_add-end c in
+    let there = placed at.After-meta2_start-place in
+    omega (arith, ended at.After-meta2_length there, end_small c.requires (counted at.After-meta2_start-place))
 
 pub not_as_needed-requires : goal.not_as_needed-requires
-unfolding end_at meta2_end
 not_as_needed-requires c =
-    let end : let a = c.args in
-    c.meta2_start-place.result + c.meta2_length.result ≡ end_at a.h (entry a.sizes.now) c.get_u32-maxchunks.result.value =
-    ap₂ (λ (x y : ℕ). x + y) c.meta2_start-place.ensures c.meta2_length.ensures in
-    let counted : maxchunks_rule (pos c.get_u32-maxchunks.result.value) ≡ true = sym c.maxchunks_ok.ensures ∙ c.if-not-maxchunks_ok.false in
-    let end_small : c.meta2_start-place.result + c.meta2_length.result < 2 ^ 63 =
-    rw end (omega (arith, meta2_end_small c.requires.sound _ (maxchunks_facts _ counted))) in
-    (omega (arith, end_small), end_small)
+    let at = goal.at.not_as_needed-requires c in
+    let there = placed at.After-meta2_start-place in
+    let small : c.meta2_start-place.result + c.meta2_length.result < 2 ^ 63 =
+    rw (ended at.After-meta2_length there) (end_small c.requires (counted at.After-meta2_start-place)) in
+    (omega (arith, small), small)
 
-pub returns-then-len-end : goal.returns-then-len-end
-unfolding end_at meta2_end meta2_at
-returns-then-len-end c =
-    let end : let a = c.args in
-    c.meta2_start-place.result + c.meta2_length.result ≡ end_at a.h (entry a.sizes.now) c.get_u32-maxchunks.result.value =
-    ap₂ (λ (x y : ℕ). x + y) c.meta2_start-place.ensures c.meta2_length.ensures in
-    let read : let a = c.args in
-    LastRead a.xs.now a.len a.h a.sizes.now c.get_u32-maxchunks.result.value c.get_u64-start.result.value = let a = c.args in
-    let at = c.last_at-at.result in
-    let m : c.get_u32-maxchunks.result.value ≡ number_at (is_big a.h) 4 a.xs.now at = λ i. (c.get_u32-maxchunks.ensures i).value in
-    let first : c.get_u64-start.result.value ≡ number_at (is_big a.h) 8 a.xs.now (at + 4) = λ i. (c.get_u64-start.ensures i).value in
-    record {
-      passed = c.requires;
-      maxchunks_is = m ∙ ap (number_at (is_big a.h) 4 a.xs.now) c.last_at-at.ensures;
-      start_is = first ∙ ap (λ (at : ℕ). number_at (is_big a.h) 8 a.xs.now (at + 4)) c.last_at-at.ensures;
-    } in
-    let counted : maxchunks_rule (pos c.get_u32-maxchunks.result.value) ≡ true = sym c.maxchunks_ok.ensures ∙ c.if-not-maxchunks_ok.false in
-    let found : let a = c.args in
-    c.meta2_start-place.result ≡ meta2_at a.h (entry a.sizes.now) c.get_u32-maxchunks.result.value = c.meta2_start-place.ensures in
-    c.no_last-then-len-end.ensures
-    ∙ (λ i. none (c.not_as_needed.ensures i))
-    ∙ (λ i. none (record { refusal = 12; fault = end_fault c.args.len (end i) }))
-    ∙ past_end read c.if-says-eq0.false counted (c.if-says-place.false ∙ found) (rw (sym end) c.if-len-end.true)
+pub returns-then-len-end-clause-verdict : goal.returns-then-len-end-clause-verdict
+returns-then-len-end-clause-verdict c =
+    let at = goal.at.returns-then-len-end-clause-verdict c in
+    let there = placed at.After-meta2_start-place in
+    let ends = ended at.After-meta2_length there in
+    let same : start c.requires ≡ place c.requires = (λ i. (sym (found_start at.After-get-start) i).value) ∙ c.if-start-place.false ∙ there in
+    ap verdict_of c.not_as_needed.ensures
+    ∙ (λ i. record { refusal = 12; fault = end_fault c.args.len (ends i) })
+    ∙ sym (asked_12 at.After-get-chunks (counted at.After-meta2_start-place)
+    ∙ passes_first _ _ (ap not (eq-eqb _ _ same))
+    ∙ fails_first _ _ (rw (← ends) (lt-ltb _ _ c.if-len-end.true)))
 
 pub returns : goal.returns
-unfolding meta2_at end_at meta2_end
 returns c =
-    let read : let a = c.args in
-    LastRead a.xs.now a.len a.h a.sizes.now c.get_u32-maxchunks.result.value c.get_u64-start.result.value = let a = c.args in
-    let at = c.last_at-at.result in
-    let m : c.get_u32-maxchunks.result.value ≡ number_at (is_big a.h) 4 a.xs.now at = λ i. (c.get_u32-maxchunks.ensures i).value in
-    let first : c.get_u64-start.result.value ≡ number_at (is_big a.h) 8 a.xs.now (at + 4) = λ i. (c.get_u64-start.ensures i).value in
+    let at = goal.at.returns c in
+    let there = placed at.After-meta2_start-place in
+    let ends = ended at.After-meta2_length there in
+    let same : start c.requires ≡ place c.requires = (λ i. (sym (found_start at.After-get-start) i).value) ∙ c.if-start-place.false ∙ there in
     record {
-      passed = c.requires;
-      maxchunks_is = m ∙ ap (number_at (is_big a.h) 4 a.xs.now) c.last_at-at.ensures;
-      start_is = first ∙ ap (λ (at : ℕ). number_at (is_big a.h) 8 a.xs.now (at + 4)) c.last_at-at.ensures;
-    } in
-    let counted : maxchunks_rule (pos c.get_u32-maxchunks.result.value) ≡ true = sym c.maxchunks_ok.ensures ∙ c.if-not-maxchunks_ok.false in
-    let found : let a = c.args in
-    c.meta2_start-place.result ≡ meta2_at a.h (entry a.sizes.now) c.get_u32-maxchunks.result.value = c.meta2_start-place.ensures in
-    let end : let a = c.args in
-    c.meta2_start-place.result + c.meta2_length.result ≡ end_at a.h (entry a.sizes.now) c.get_u32-maxchunks.result.value =
-    ap₂ (λ (x y : ℕ). x + y) c.meta2_start-place.ensures c.meta2_length.ensures in
-    accepted_last read c.if-says-eq0.false counted (c.if-says-place.false ∙ found) c.passes.ensures
-    (rw (sym end) c.if-len-end.false)
+      verdict =
+          sym (asked_12 at.After-get-chunks (counted at.After-meta2_start-place)
+          ∙ passes_first _ _ (ap not (eq-eqb _ _ same))
+          ∙ passes_last (test_at 12 (end_fault c.args.len (end c.requires)) (ltb c.args.len (end c.requires))) (rw (← ends) (le-ltb _ _ c.if-len-end.false)));
+      last =
+          (λ i. record { maxchunks = (found_chunks at.After-get-chunks i).value; start = there i })
+          ∙ last_read c.requires (counted at.After-meta2_start-place);
+    }

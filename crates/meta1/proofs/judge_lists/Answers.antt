@@ -1,61 +1,86 @@
 -- Ranks, then sizes, are put into lists of zeros, and judged there.
 use mathlib.Core.Path.{◌≡◌, ap, ap₂, ◌∙◌}
-use mathlib.Core.List.{List}
-use Prim.Native.Nat.{ℕ, ◌+◌, ◌*◌, ◌≤◌}
+use mathlib.Core.List.{List, ◌++◌}
+use Prim.Native.Nat.{ℕ, ◌+◌, ◌-◌, ◌*◌, ◌≤◌}
 use native.Mathlib.Omega.{arith}
-use lib.ListN.{length, length-replicate}
+use borrow.Rule.Slice.PartMut.{mid_of, post_of}
+use lib.ListN.{length, take, drop, length-drop}
+use lib.Seq.{length-take-le}
 use Rattle.lists.specs.Below.{list_below}
-use Rattle.endian.specs.Number.{number_at}
 use Rattle.lists.specs.Splice.{splice}
+use Rattle.lists.proofs.Below.{length_list}
+use Rattle.lists.proofs.Splice.{splice_whole}
+use Rattle.endian.specs.Number.{number_at}
 use Rattle.format.specs.Limits.{max_tasks}
 use Rattle.format.specs.Layout.{meta1_end}
-use Rattle.format.specs.Meta1.{fixed_length}
 use Rattle.format.specs.Record.{all_lists, is_big, no_lists}
 use Rattle.meta1.specs.Judging.{lists_read}
 use Rattle.format.proofs.Stripes.{lists_put, length_ranked}
+use Rattle.meta1.proofs.Answers.{rank, size}
 use Rattle.meta1.proofs.judge_lists.Goals as goal
+use Rattle.meta1.proofs.judge_lists.Goals.{Start, After-read_stripe, After-read_stripe-2}
+
+-- META1 is there whole
+long : (s : Start) → meta1_end s.args.h.n ≤ length s.args.xs.now
+unfolding meta1_end
+long s = let few = s.requires.0.few in
+    s.requires.0.covers (meta1_end s.args.h.n) s.requires.0.long (omega arith)
+
+ranks_long : (s : Start) → length (take s.args.h.n s.args.lists.now) ≡ s.args.h.n
+ranks_long s = length-take-le s.args.h.n s.args.lists.now (omega (arith, s.requires.0.few, s.told-lists))
 
 pub read_stripe-requires : goal.read_stripe-requires
 unfolding meta1_end
 read_stripe-requires c =
-    let lists_long : length c.args.lists.now ≡ all_lists = ap length c.requires.1 ∙ length-replicate {A = ℕ} all_lists 0 in
-    let long : meta1_end c.args.h.n ≤ length c.args.xs.now = let few = c.requires.0.few in
-    c.requires.0.covers (meta1_end c.args.h.n) c.requires.0.long (omega arith) in
-    (omega (arith, c.requires.0.few, lists_long), omega (arith, long))
+    let s = (goal.at.read_stripe-requires c).Start in
+    omega (arith, long s, ranks_long s)
+
+-- the lists after the ranks
+ranked : (c : After-read_stripe) → length (take c.args.h.n c.args.lists.now) ≡ c.args.h.n
+    → c.read_stripe.new.stripe ++ post_of 0 c.args.h.n c.args.lists.now ≡ splice no_lists 0 (list_below c.args.h.n (rank c.requires.0))
+ranked c n = let ranks = list_below c.args.h.n (rank c.requires.0) in
+    splice_whole c.args.lists.now 0 ranks c.args.h.n (c.read_stripe.ensures ∙ ap (λ (n : ℕ). list_below n (rank c.requires.0)) n)
+    (length_list (rank c.requires.0) c.args.h.n)
+    ∙ ap (λ (lists : List ℕ). splice lists 0 ranks) c.requires.1
+
+sizes_long : (lists : List ℕ) (n : ℕ) → length lists ≡ all_lists → n ≤ max_tasks → length (mid_of max_tasks (max_tasks + n - max_tasks) lists) ≡ n
+sizes_long lists n l few = length-take-le (max_tasks + n - max_tasks) (drop max_tasks lists) (omega (arith, length-drop max_tasks lists)) ∙ omega arith
 
 pub read_stripe-requires-2 : goal.read_stripe-requires-2
 unfolding meta1_end
 read_stripe-requires-2 c =
-    let rank : ℕ → ℕ = λ i. number_at (is_big c.args.h) 8 c.args.xs.now (fixed_length + 8 * i) in
-    let ranked : c.read_stripe.new.lists ≡ splice no_lists 0 (list_below c.args.h.n rank) = rw (← c.requires.1) c.read_stripe.ensures in
-    let size : ℕ → ℕ = λ i. number_at (is_big c.args.h) 8 c.args.xs.now (fixed_length + 8 * c.args.h.n + 8 * i) in
-    let ranked_long : length c.read_stripe.new.lists ≡ all_lists = ap length ranked ∙ length_ranked c.args.h.n rank size c.requires.0.few in
-    let long : meta1_end c.args.h.n ≤ length c.args.xs.now = let few = c.requires.0.few in
-    c.requires.0.covers (meta1_end c.args.h.n) c.requires.0.long (omega arith) in
-    (omega (arith, ranked_long, c.requires.0.few), omega (arith, long, c.sizes_at.ensures))
+    let at = goal.at.read_stripe-requires-2 c in
+    let n = c.args.h.n in
+    let lists = c.read_stripe.new.stripe ++ post_of 0 n c.args.lists.now in
+    let put = ranked at.After-read_stripe (ranks_long at.Start) in
+    let many : length lists ≡ all_lists = ap length put ∙ length_ranked n (rank c.requires.0) (size c.requires.0) c.requires.0.few in
+    omega (arith, long at.Start, c.sizes_at.ensures, sizes_long lists n many c.requires.0.few)
+
+-- and after the sizes
+filled : (c : After-read_stripe-2) (lists : List ℕ) → lists ≡ splice no_lists 0 (list_below c.args.h.n (rank c.requires.0))
+    → c.read_stripe-2.new.stripe
+    ≡ list_below (length (mid_of max_tasks (max_tasks + c.args.h.n - max_tasks) lists))
+    (λ i. number_at (is_big c.args.h) 8 c.args.xs.now (c.sizes_at.result + 8 * i))
+    → take max_tasks lists ++ (c.read_stripe-2.new.stripe ++ post_of max_tasks (max_tasks + c.args.h.n - max_tasks) lists) ≡ lists_read c.args.xs.now c.args.h
+unfolding lists_read
+filled c lists put e =
+    let p = c.requires.0 in
+    let n = c.args.h.n in
+    let many : length lists ≡ all_lists = ap length put ∙ length_ranked n (rank p) (size p) p.few in
+    let sizes : c.read_stripe-2.new.stripe ≡ list_below n (size p) =
+    e
+    ∙ ap₂ (λ (n : ℕ) (at : ℕ). list_below n (λ i. number_at (is_big c.args.h) 8 c.args.xs.now (at + 8 * i)))
+    (sizes_long lists n many p.few) c.sizes_at.ensures in
+    splice_whole lists max_tasks (list_below n (size p)) (max_tasks + n - max_tasks) sizes (length_list (size p) n ∙ omega arith)
+    ∙ ap (λ (lists : List ℕ). splice lists max_tasks (list_below n (size p))) put
+    ∙ lists_put n (rank p) (size p) p.few
 
 pub judge_read-requires : goal.judge_read-requires
-unfolding lists_read
 judge_read-requires c =
-    let rank : ℕ → ℕ = λ i. number_at (is_big c.args.h) 8 c.args.xs.now (fixed_length + 8 * i) in
-    let ranked : c.read_stripe.new.lists ≡ splice no_lists 0 (list_below c.args.h.n rank) = rw (← c.requires.1) c.read_stripe.ensures in
-    let size : ℕ → ℕ = λ i. number_at (is_big c.args.h) 8 c.args.xs.now (fixed_length + 8 * c.args.h.n + 8 * i) in
-    let filled : c.read_stripe-2.new.lists ≡ lists_read c.args.xs.now c.args.h = let n = c.args.h.n in
-    c.read_stripe-2.ensures
-    ∙ ap₂ (λ (lists : List ℕ) (at : ℕ). splice lists max_tasks (list_below n (λ i. number_at (is_big c.args.h) 8 c.args.xs.now (at + 8 * i))))
-    ranked c.sizes_at.ensures
-    ∙ lists_put n rank size c.requires.0.few in
-    (c.requires.0, filled)
+    let at = goal.at.judge_read-requires c in
+    (c.requires.0, filled at.After-read_stripe-2 _ (ranked at.After-read_stripe (ranks_long at.Start)) c.read_stripe-2.ensures)
 
 pub returns-clause-lists_after : goal.returns-clause-lists_after
-unfolding lists_read
 returns-clause-lists_after c =
-    let rank : ℕ → ℕ = λ i. number_at (is_big c.args.h) 8 c.args.xs.now (fixed_length + 8 * i) in
-    let ranked : c.read_stripe.new.lists ≡ splice no_lists 0 (list_below c.args.h.n rank) = rw (← c.requires.1) c.read_stripe.ensures in
-    let size : ℕ → ℕ = λ i. number_at (is_big c.args.h) 8 c.args.xs.now (fixed_length + 8 * c.args.h.n + 8 * i) in
-    let filled : c.read_stripe-2.new.lists ≡ lists_read c.args.xs.now c.args.h = let n = c.args.h.n in
-    c.read_stripe-2.ensures
-    ∙ ap₂ (λ (lists : List ℕ) (at : ℕ). splice lists max_tasks (list_below n (λ i. number_at (is_big c.args.h) 8 c.args.xs.now (at + 8 * i))))
-    ranked c.sizes_at.ensures
-    ∙ lists_put n rank size c.requires.0.few in
-    filled
+    let at = goal.at.returns-clause-lists_after c in
+    filled at.After-read_stripe-2 _ (ranked at.After-read_stripe (ranks_long at.Start)) c.read_stripe-2.ensures

@@ -9,10 +9,11 @@ use lib.IntN.{pos}
 use Rattle.lists.proofs.Below.{and_left}
 use Rattle.endian.specs.Number.{number_at}
 use Rattle.endian.specs.Signed.{sign_bit}
-use Rattle.format.specs.declared.fault.Verdict.{Verdict}
+use Rattle.format.specs.Refusals.{Verdict}
 use Rattle.format.specs.declared.head.Head.{Head}
+use Rattle.format.specs.Layout.{capacity}
 use Rattle.format.specs.Meta2.{count_field, value_field, least_count, counts_rule, values_rule}
-use Rattle.format.specs.Record.{size_of, count_of, is_big, holds}
+use Rattle.format.specs.Record.{entry, size_of, count_of, is_big, holds}
 use Rattle.format.specs.Refusals.{first_failing, verdict, passed}
 use Rattle.format.specs.Judge.{count_in, value_tests, counts_tests, meta2_tests}
 use Rattle.format.proofs.Accepting.{counts_numbered, counts_hold, counts_pass, values_verdict}
@@ -20,7 +21,9 @@ use Rattle.format.proofs.Rules.{values_agree}
 use Rattle.format.proofs.Unsigned.{natural_unsigned, counts_unsigned}
 use Rattle.format.proofs.Verdicts.{verdict_passes, verdict_fails}
 use Rattle.meta2.specs.Judging.{CountsRead, CountsPassed}
+use Rattle.meta2.proofs.Counts.{first_counts, rule_first, values_first}
 use Rattle.meta2.proofs.judge_read.Goals as goal
+use Rattle.meta2.proofs.judge_read.Goals.{After-counts_ok, After-values_ok}
 
 module _ {part : List ℕ} {at : ℕ} {h : Head} {maxchunks : ℕ} {lists : List ℕ} (r : CountsRead part at h maxchunks lists) where
   abbrev size : ℕ → ℕ
@@ -71,26 +74,42 @@ module _ {part : List ℕ} {at : ℕ} {h : Head} {maxchunks : ℕ} {lists : List
         let same = values_agree h.n maxchunks capacity capacity (count_of lists) (count_in h part) value value (λ i l. refl) kept (λ j l. refl) in
         sym (values_asked ∙ values_verdict h size maxchunks part at ∙ rw (sym same ∙ sym judged ∙ good))
 
+-- the rule of the counts, judged over the first of the lists
+counts_are : (s : After-counts_ok) → let a = s.args in
+    s.counts_ok.result ≡ counts_rule a.h.format a.h.n a.maxchunks (λ i. pos (count_of a.lists.now i))
+counts_are s = let a = s.args in s.counts_ok.ensures ∙ rule_first a.lists.now s.told-lists a.h.n s.requires.there.sound.tasks a.h.format a.maxchunks
+
 pub returns-then-not-counts_ok : goal.returns-then-not-counts_ok
 returns-then-not-counts_ok c =
-    bad_counts c.requires (sym c.counts_ok.ensures ∙ c.if-not-counts_ok.true) c.judge_counts.ensures
+    let s : After-counts_ok = (goal.at.returns-then-not-counts_ok c).After-counts_ok in
+    bad_counts c.requires (sym (counts_are s) ∙ c.if-not-counts_ok.true) c.judge_counts.ensures
 
 pub judge_values-requires : goal.judge_values-requires
 judge_values-requires c =
-    let counted : let a = c.args in
-    counts_rule a.h.format a.h.n a.maxchunks (λ i. pos (count_of a.lists.now i)) ≡ true = sym c.counts_ok.ensures ∙ c.if-not-counts_ok.false in
-    counts_passed c.requires counted
+    let s : After-counts_ok = (goal.at.judge_values-requires c).After-counts_ok in
+    counts_passed c.requires (sym (counts_are s) ∙ c.if-not-counts_ok.false)
 
 pub returns-then-not-values_ok : goal.returns-then-not-values_ok
 returns-then-not-values_ok c =
-    let counted : let a = c.args in
-    counts_rule a.h.format a.h.n a.maxchunks (λ i. pos (count_of a.lists.now i)) ≡ true = sym c.counts_ok.ensures ∙ c.if-not-counts_ok.false in
-    c.judge_values.ensures ∙ sym (values_asked c.requires counted)
+    let s : After-counts_ok = (goal.at.returns-then-not-values_ok c).After-counts_ok in
+    c.judge_values.ensures ∙ sym (values_asked c.requires (sym (counts_are s) ∙ c.if-not-counts_ok.false))
+
+-- and that of the values, over the layout of the record
+values_are : (s : After-values_ok) → let a = s.args in
+    s.values_ok.result
+    ≡ values_rule a.h.n a.maxchunks (holds a.h (size_of a.lists.now)) (count_of a.lists.now) (value_field (is_big a.h) a.part.now a.h.n)
+unfolding holds
+values_are s =
+    let a = s.args in
+    let first = first_counts a.lists.now s.told-lists a.h.n s.requires.there.sound.tasks in
+    let lay = s.of-layout.ensures in
+    s.values_ok.ensures
+    ∙ (λ x. values_rule (lay.n x) a.maxchunks (λ i. capacity (lay.blocksize x) (entry (lay.sizes x) i)) (entry first) (value_field (is_big a.h) a.part.now (lay.n x)))
+    ∙ values_first a.lists.now s.told-lists a.h.n s.requires.there.sound.tasks a.maxchunks (holds a.h (size_of a.lists.now))
+    (value_field (is_big a.h) a.part.now a.h.n)
 
 pub returns : goal.returns
-unfolding holds
 returns c =
-    let counted : let a = c.args in
-    counts_rule a.h.format a.h.n a.maxchunks (λ i. pos (count_of a.lists.now i)) ≡ true = sym c.counts_ok.ensures ∙ c.if-not-counts_ok.false in
-    c.passes.ensures
-    ∙ values_pass c.requires counted c.values_ok.ensures (c.if-not-values_ok.false)
+    let s : After-counts_ok = (goal.at.returns c).After-counts_ok in
+    let v : After-values_ok = (goal.at.returns c).After-values_ok in
+    values_pass c.requires (sym (counts_are s) ∙ c.if-not-counts_ok.false) (values_are v) c.if-not-values_ok.false

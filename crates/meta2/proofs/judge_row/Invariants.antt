@@ -1,14 +1,10 @@
--- The loop's invariant: every value passed keeps its rule. The measure is the values left.
+-- The loop's invariant: every value passed keeps its rule.
 use mathlib.Core.Path.{◌≡◌}
-use mathlib.Core.Bool.{true}
-use Prim.Native.Nat.{◌-◌, ◌≤◌}
-use Rattle.lists.specs.Below.{all_below}
+use Rattle.lists.specs.Below.{list_below}
 use Rattle.format.specs.Record.{size_of}
-use Rattle.format.proofs.Accepting.{value_kept}
+use Rattle.format.specs.Refusals.{verdict, passed}
+use Rattle.format.specs.Judge.{value_test}
 use Rattle.meta2.proofs.judge_row.Given as goal
 
 abbrev pub invariant-loop-i : goal.invariant-loop-i
-invariant-loop-i l = (l.i ≤ l.n) × (all_below l.i (value_kept l.h (size_of l.lists) l.maxchunks l.part l.k) ≡ true)
-
-abbrev pub decreases-loop-i : goal.decreases-loop-i
-decreases-loop-i l = l.n - l.i
+invariant-loop-i l = passed ≡ verdict (list_below l.i (value_test l.fn.h (size_of l.lists) l.maxchunks l.at l.part l.k))
