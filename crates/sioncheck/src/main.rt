@@ -1,7 +1,6 @@
 // The program of document 01: reads an input from standard input and prints the one line about it.
 #![tactic(auto)]
 
-use line::LINE;
 use std::io::{Error, Result};
 use std::process::ExitCode;
 use streams::input::INPUT;
@@ -9,10 +8,9 @@ use streams::{input, output};
 
 // The line and its end go out in one write.
 fn print_line(rt: &HostRuntime, input: &[u8]) -> Result<()> {
-    let mut out = [0u8; LINE];
-    let k = line::line(input, &mut out);
-    out[k] = b'\n';
-    output::write_text(&mut rt.stdout(), &out[..=k])
+    let mut text = line::line(input);
+    text.push('\n');
+    output::write_text(&mut rt.stdout(), text.as_str().as_bytes())
 }
 
 // What failed is said on standard error; that this cannot be written either changes nothing.

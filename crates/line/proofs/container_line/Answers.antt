@@ -1,76 +1,89 @@
 -- The refusal, and after an accepted load n, maxchunks and the totals behind it.
-use Rattle.std.proofs.Common.{◌∙◌, arith}
+use Rattle.std.proofs.Common.{◌≡◌, ◌∷◌, ◌++◌, ◌+◌, ◌-◌, ◌≤◌, List, ℕ, length, sym, ap, ap₂, ◌∙◌, arith, append_assoc, append-nil}
 use lib.IntN.{pos}
 use lib.ListN.{replicate}
-use Rattle.format.specs.Line.{cells}
-use Rattle.line.proofs.Whole.{few_tasks, line_put, refused_line, accepted_put}
+use Rattle.lists.specs.Below.{list_below, join_below}
+use Rattle.format.specs.declared.head.File.TheVariants.{Single}
+use Rattle.format.specs.declared.loaded.ByteCount.{ByteCount}
+use Rattle.format.specs.Limits.{max_tasks}
+use Rattle.format.specs.Reads.{Container, container_of, total_answer}
+use Rattle.format.specs.Line.{cells, decimal, space, spaced, totals_of, container_line}
+use Rattle.line.proofs.Text.{totals, totals_more}
+use Rattle.line.proofs.Whole.{few_tasks, refused_line, accepted_line}
 use Rattle.line.proofs.container_line.Goals as goal
+use Rattle.line.proofs.container_line.Goals.{After-from-task-end}
 
-pub returns-then-refusal-ne0-clause-out_after : goal.returns-then-refusal-ne0-clause-out_after
-returns-then-refusal-ne0-clause-out_after c =
-    let p = c.put_number-first in
+pub returns-then-refusal-ne0-clause-bytes : goal.returns-then-refusal-ne0-clause-bytes
+returns-then-refusal-ne0-clause-bytes c =
     let j = c.load-answer in
-    let a = c.args in
-    (line_put a.image.now a.out.now
-    (refused_line a.image.now j.result j.new.table j.ensures.value j.ensures.table_after c.if-refusal-ne0.true)
-    (omega (arith, p.ensures.value.1)) (omega (arith, c.told-out, p.auto.out)) (p.ensures.out_after, p.ensures.value.0)).0
+    c.push_number.ensures.bytes
+    ∙ ap₂ (λ xs n. xs ++ decimal n) c.new-text.ensures c.from.ensures
+    ∙ refused_line c.args.image.now j.result j.new.table j.ensures.value j.ensures.table_after c.if-refusal-ne0.true
 
-pub returns-then-refusal-ne0-clause-value : goal.returns-then-refusal-ne0-clause-value
-returns-then-refusal-ne0-clause-value c =
-    let p = c.put_number-first in
-    let j = c.load-answer in
-    let a = c.args in
-    (line_put a.image.now a.out.now
-    (refused_line a.image.now j.result j.new.table j.ensures.value j.ensures.table_after c.if-refusal-ne0.true)
-    (omega (arith, p.ensures.value.1)) (omega (arith, c.told-out, p.auto.out)) (p.ensures.out_after, p.ensures.value.0)).1.0
+-- the container whose totals are told, and how many tasks it has
+abbrev told : After-from-task-end → Container
+told s = container_of Single s.load-answer.result.loaded s.load-answer.result.lists s.args.image.now s.load-answer.new.table
 
-pub put_totals-requires : goal.put_totals-requires
-put_totals-requires c =
-    let j = c.load-answer in
-    let few = few_tasks c.args.image.now (replicate cells (pos 0)) j.result j.ensures.value c.if-refusal-ne0.false in
-    let p = c.put_number-first in
-    let q = c.put_spaced-second in
-    let r = c.put_spaced-third in
-    omega (arith, p.ensures.value.1, q.ensures.value.1, r.ensures.value.1, r.auto.out, q.auto.out, p.auto.out, c.told-out)
+few : (s : After-from-task-end) → s.load-answer.result.loaded.head.n ≤ max_tasks
+few s = let j = s.load-answer in few_tasks s.args.image.now (replicate cells (pos 0)) j.result j.ensures.value s.if-refusal-ne0.false
 
-pub returns-clause-out_after : goal.returns-clause-out_after
-returns-clause-out_after c =
-    let j = c.load-answer in
-    let a = c.args in
-    let p = c.put_number-first in
-    let q = c.put_spaced-second in
-    let r = c.put_spaced-third in
-    let t = c.put_totals in
-    let whole = accepted_put a.image.now j.result j.new.table j.ensures.value j.ensures.table_after c.if-refusal-ne0.false a.out.now
-    (p.ensures.out_after, p.ensures.value.0) (q.ensures.out_after, q.ensures.value.0) (r.ensures.out_after, r.ensures.value.0) (t.ensures.out_after, t.ensures.value.0)
-    (p.ensures.value.1, q.ensures.value.1, r.ensures.value.1, t.ensures.value.1) (omega (arith, c.told-out))
-    (t.auto.out ∙ r.auto.out ∙ q.auto.out ∙ p.auto.out) in
-    whole.0
+-- the line is whole once the totals of all tasks stand behind the three numbers
+whole : (s : After-from-task-end) (k : ℕ) {text : List ℕ} → text ≡ s.push_spaced-2.new.text.bytes ++ spaced (list_below k (totals (told s)))
+    → k ≡ s.load-answer.result.loaded.head.n → text ≡ container_line s.args.image.now
+unfolding totals_of
+whole s k e all =
+    let j = s.load-answer in
+    let first = s.push_number.ensures.bytes ∙ ap₂ (λ xs n. xs ++ decimal n) s.new-text.ensures s.from.ensures in
+    let second = s.push_spaced.ensures.bytes ∙ ap₂ (λ xs n. xs ++ (space ∷ decimal n)) first s.from-2.ensures in
+    let third = s.push_spaced-2.ensures.bytes ∙ ap₂ (λ xs n. xs ++ (space ∷ decimal n)) second s.from-3.ensures in
+    e
+    ∙ ap₂ (λ xs (i : ℕ). xs ++ spaced (list_below i (totals (told s)))) third all
+    ∙ accepted_line s.args.image.now j.result j.new.table j.ensures.value j.ensures.table_after s.if-refusal-ne0.false
 
-pub returns-clause-value : goal.returns-clause-value
-returns-clause-value c =
-    let j = c.load-answer in
-    let a = c.args in
-    let p = c.put_number-first in
-    let q = c.put_spaced-second in
-    let r = c.put_spaced-third in
-    let t = c.put_totals in
-    let whole = accepted_put a.image.now j.result j.new.table j.ensures.value j.ensures.table_after c.if-refusal-ne0.false a.out.now
-    (p.ensures.out_after, p.ensures.value.0) (q.ensures.out_after, q.ensures.value.0) (r.ensures.out_after, r.ensures.value.0) (t.ensures.out_after, t.ensures.value.0)
-    (p.ensures.value.1, q.ensures.value.1, r.ensures.value.1, t.ensures.value.1) (omega (arith, c.told-out))
-    (t.auto.out ∙ r.auto.out ∙ q.auto.out ∙ p.auto.out) in
-    whole.1.0
+-- one total more
+one_more : (s : After-from-task-end) (task : ℕ) {text more : List ℕ} (total : ByteCount) → 1 ≤ task
+    → text ≡ s.push_spaced-2.new.text.bytes ++ spaced (list_below (task - 1) (totals (told s)))
+    → total ≡ total_answer (told s) task → more ≡ text ++ (space ∷ decimal total.bytes)
+    → more ≡ s.push_spaced-2.new.text.bytes ++ spaced (list_below task (totals (told s)))
+one_more s task total some e is m =
+    m
+    ∙ ap₂ (λ xs (t : ByteCount). xs ++ (space ∷ decimal t.bytes)) e is
+    ∙ append_assoc s.push_spaced-2.new.text.bytes _ _
+    ∙ ap (λ xs. s.push_spaced-2.new.text.bytes ++ xs) (totals_more (told s) task some)
 
-pub returns-clause-upper_bound : goal.returns-clause-upper_bound
-returns-clause-upper_bound c =
-    let j = c.load-answer in
-    let a = c.args in
-    let p = c.put_number-first in
-    let q = c.put_spaced-second in
-    let r = c.put_spaced-third in
-    let t = c.put_totals in
-    let whole = accepted_put a.image.now j.result j.new.table j.ensures.value j.ensures.table_after c.if-refusal-ne0.false a.out.now
-    (p.ensures.out_after, p.ensures.value.0) (q.ensures.out_after, q.ensures.value.0) (r.ensures.out_after, r.ensures.value.0) (t.ensures.out_after, t.ensures.value.0)
-    (p.ensures.value.1, q.ensures.value.1, r.ensures.value.1, t.ensures.value.1) (omega (arith, c.told-out))
-    (t.auto.out ∙ r.auto.out ∙ q.auto.out ∙ p.auto.out) in
-    whole.1.1
+pub loop-task-init : goal.loop-task-init
+unfolding join_below
+loop-task-init c = record { bytes = sym (append-nil _); in_range = omega arith; upper_bound = omega arith }
+
+pub push_spaced-requires-in-loop-task : goal.push_spaced-requires-in-loop-task
+push_spaced-requires-in-loop-task c =
+    let s : After-from-task-end = (goal.at.push_spaced-requires-in-loop-task c).After-from-task-end in
+    omega (arith, few s, ap length c.new-text.ensures)
+
+pub loop-task-preserved : goal.loop-task-preserved
+loop-task-preserved c =
+    let e : c.loop-task.task + 1 - 1 ≡ c.loop-task.task = omega arith in
+    let s : After-from-task-end = (goal.at.loop-task-preserved c).After-from-task-end in
+    record { in_range = omega arith; bytes = rw e (one_more s c.loop-task.task _ (omega arith) c.loop-task.invariant.bytes c.total-total.ensures c.push_spaced-in-loop-task.ensures.bytes); upper_bound = omega arith }
+
+pub returns-else-refusal-ne0-clause-bytes : goal.returns-else-refusal-ne0-clause-bytes
+returns-else-refusal-ne0-clause-bytes c =
+    let s : After-from-task-end = (goal.at.returns-else-refusal-ne0-clause-bytes c).After-from-task-end in
+    whole s (c.loop-task.task - 1) c.loop-task.invariant.bytes (omega arith)
+
+pub returns-else-refusal-ne0-clause-upper_bound : goal.returns-else-refusal-ne0-clause-upper_bound
+returns-else-refusal-ne0-clause-upper_bound c =
+    let s : After-from-task-end = (goal.at.returns-else-refusal-ne0-clause-upper_bound c).After-from-task-end in
+    omega (arith, few s, ap length c.new-text.ensures)
+
+pub returns-else-refusal-ne0-2-clause-bytes : goal.returns-else-refusal-ne0-2-clause-bytes
+returns-else-refusal-ne0-2-clause-bytes c =
+    let s : After-from-task-end = (goal.at.returns-else-refusal-ne0-2-clause-bytes c).After-from-task-end in
+    let all = one_more s c.loop-task.task _ (omega arith) c.loop-task.invariant.bytes c.total-total.ensures c.push_spaced-in-loop-task.ensures.bytes in
+    whole s c.loop-task.task all (omega arith)
+
+pub returns-else-refusal-ne0-2-clause-upper_bound :
+    goal.returns-else-refusal-ne0-2-clause-upper_bound
+returns-else-refusal-ne0-2-clause-upper_bound c =
+    let s : After-from-task-end = (goal.at.returns-else-refusal-ne0-2-clause-upper_bound c).After-from-task-end in
+    omega (arith, few s, ap length c.new-text.ensures)
