@@ -19,13 +19,18 @@ use Rattle.endian.proofs.Signed.{within_holds}
 use Rattle.format.specs.Limits.{max_tasks, max_size, blocksize_rule, sizes_rule, Sound}
 use Rattle.format.specs.Layout.{meta2_end}
 use Rattle.format.specs.Meta2.{least_count}
-use Rattle.format.specs.Refusals.{first_failing}
+use Rattle.std.specs.Prelude.{Err}
+use Rattle.format.specs.declared.refusal.Refusal.{Refusal}
+use Rattle.format.specs.Refusals.{number_of, first_failing}
+use Rattle.format.specs.Answers.{byte_count}
 use Rattle.format.specs.Reads.{Container, loaded_tests}
-use Rattle.format.proofs.Refusals.{first_passes, first_fails, when_accepted, when_refused}
+use Rattle.format.proofs.Refusals.{some_number, first_fails, first_passes, when_accepted, when_refused}
+use Rattle.format.proofs.Passing.{head_tasks}
 use Rattle.format.proofs.Formats.{least_one}
 use Rattle.format.proofs.Chunks.{meta2_end_agree}
-use Rattle.format.proofs.LoadedRecords.{loaded_numbered}
+use Rattle.format.proofs.LoadedRecords.{loaded_numbered, loaded_passed}
 use Rattle.format.proofs.Stream.{counted}
+use Rattle.tables.proofs.Counts.{greatest_taken}
 use Rattle.packs.specs.Pack
 use Rattle.packs.proofs.Packed.{total_small}
 
@@ -47,8 +52,8 @@ module _ (old xs : List ℕ) (n : ℕ) (f : ℕ → ℕ) (room : n ≤ length ol
   pub as_long : length xs ≡ length old
   as_long = ap length e ∙ length_splice old 0 (list_below n f) (omega (arith, length_list f n))
 
-  pub greatest_is : greatest_below n (λ i. get_or xs i 0) ≡ greatest_below n f
-  greatest_is = greatest_cong _ f n each
+  pub greatest_is : greatest_below (length (take n xs)) (λ i. get_or (take n xs) i 0) ≡ greatest_below n f
+  greatest_is = greatest_taken n xs (omega (arith, as_long)) ∙ greatest_cong _ f n each
 
   pub small_is : all_below n (λ i. not (ltb max_size (get_or xs i 0))) ≡ all_below n (λ i. not (ltb max_size (f i)))
   small_is = all_cong _ _ n (λ i l. ap (λ (x : ℕ). not (ltb max_size x)) (each i l))
@@ -93,27 +98,29 @@ module _ (c : Container) where
   abbrev small : Bool
   small = all_below c.loaded.head.n (λ i. not (ltb max_size (Pack.total c i)))
 
-  pub record_fails : 0 < first_failing (loaded_tests c) → first_failing (loaded_tests c) ≡ first_failing (Pack.pack_tests c)
+  pub record_fails : (refusal : Refusal) → number_of refusal ≡ first_failing (loaded_tests c) → number_of refusal ≡ first_failing (Pack.pack_tests c)
   unfolding Pack.pack_tests
-  record_fails l = sym (first_fails (loaded_tests c) _ l)
+  record_fails refusal e = e ∙ sym (first_fails (loaded_tests c) _ (omega (arith, some_number refusal)))
 
-  module _ (e : first_failing (loaded_tests c) ≡ 0) where
+  -- once the tests of the record pass
+  module _ (e : 0 ≡ first_failing (loaded_tests c)) where
+    pub few : c.loaded.head.n ≤ max_tasks
+    few = (head_tasks _ _ (loaded_passed c (sym e)).head).1
+
     pub total_fails : small ≡ false → 9 ≡ first_failing (Pack.pack_tests c)
     unfolding Pack.pack_tests first_failing
-    total_fails h = sym (first_passes (loaded_tests c) _ (loaded_numbered c) e ∙ rw h)
+    total_fails h = sym (first_passes (loaded_tests c) _ (loaded_numbered c) (sym e) ∙ rw h)
 
     pub none_over : small ≡ true → 0 ≡ first_failing (Pack.pack_tests c)
     unfolding Pack.pack_tests first_failing
-    none_over h = sym (first_passes (loaded_tests c) _ (loaded_numbered c) e ∙ rw h)
+    none_over h = sym (first_passes (loaded_tests c) _ (loaded_numbered c) (sym e) ∙ rw h)
 
-  pub all_small : first_failing (Pack.pack_tests c) ≡ 0 → small ≡ true
-  all_small e = all_of _ c.loaded.head.n (λ i l. ap not (le-ltb _ _ (total_small c e i l)))
+  pub all_small : 0 ≡ first_failing (Pack.pack_tests c) → small ≡ true
+  all_small e = all_of _ c.loaded.head.n (λ i l. ap not (le-ltb _ _ (total_small c (sym e) i l)))
 
-  pub refused : (r : ℕ) → r ≡ first_failing (Pack.pack_tests c) → 0 < r → counted r 0 ≡ Pack.pack_needs c
+  pub refused : (refusal : Refusal) → number_of refusal ≡ first_failing (Pack.pack_tests c) → byte_count (Err refusal) ≡ Pack.pack_needs c
   unfolding Pack.pack_needs
-  refused r e l =
-      let positive : 0 < first_failing (Pack.pack_tests c) = omega arith in
-      ap (λ (n : ℕ). counted n 0) e ∙ sym (when_refused _ _ _ positive)
+  refused refusal e = rw (← e) (sym (when_refused _ _ _ (some_number refusal)))
 
   -- the length, by a list of the totals
   module _ (totals : List ℕ) (same : (i : ℕ) → i < c.loaded.head.n → get_or totals i 0 ≡ Pack.total c i) where
@@ -132,7 +139,7 @@ module _ (c : Container) where
         meta2_end_agree b n (size_for totals) (Pack.packed_size c) (λ i l. ap (max 1) (same i l)) _
         ∙ ap (meta2_end b n (Pack.packed_size c)) (greatest_cong _ _ n (λ i l. ap (λ (t : ℕ). cond (eqb t 0) least 1) (same i l)))
 
-    pub accepted : (bytes : ℕ) → first_failing (Pack.pack_tests c) ≡ 0
+    pub accepted : (bytes : ℕ) → 0 ≡ first_failing (Pack.pack_tests c)
         → bytes ≡ meta2_end b n (size_for totals) (greatest_below n (count_for totals least)) → counted 0 bytes ≡ Pack.pack_needs c
     unfolding Pack.pack_needs
-    accepted bytes e t = ap (counted 0) (t ∙ length_is) ∙ sym (when_accepted _ _ _ e)
+    accepted bytes e t = ap (counted 0) (t ∙ length_is) ∙ sym (when_accepted _ _ _ (sym e))

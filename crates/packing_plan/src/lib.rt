@@ -2,7 +2,7 @@
 // counts and the cells.
 #![tactic(auto)]
 
-ghost use Rattle.std.specs.Prelude.{◌≡◌, true, cond, not, ◌≤◌, max, ltb, eqb, pos, length, get_or};
+ghost use Rattle.std.specs.Prelude.{◌≡◌, true, cond, not, ◌≤◌, max, ltb, eqb, pos, length, get_or, OnOk};
 ghost use Rattle.lists.specs.Below.{all_below, greatest_below, list_below};
 ghost use Rattle.lists.specs.Splice.{splice};
 ghost use Rattle.format.specs.Limits.{blocksize_rule, max_tasks, max_size};
@@ -11,21 +11,22 @@ ghost use Rattle.format.specs.Meta2.{unused, least_count};
 ghost use Rattle.format.specs.declared.head.File.TheVariants.{Single};
 ghost use Rattle.format.specs.declared.head.Head.{Head};
 ghost use Rattle.format.specs.declared.loaded.Loaded.{Loaded};
-ghost use Rattle.format.specs.declared.loaded.ByteCount.{ByteCount};
-ghost use Rattle.format.specs.Refusals.{first_failing};
-ghost use Rattle.format.specs.Record.{all_lists};
+ghost use Rattle.format.specs.Refusals.{first_failing, answered};
 ghost use Rattle.format.specs.Reads.{container_of};
 ghost use Rattle.format.specs.Passed.{Passed};
+ghost use Rattle.format.specs.Answers.{byte_count};
 ghost use Rattle.packs.specs.Pack.{total, pack_tests, pack_needs};
 
 use format::head::{File, Head, LISTS};
-use format::loaded::{ByteCount, Loaded};
-use format::{limit, refusal};
+use format::limit;
+use format::loaded::Loaded;
+use format::refusal::Refusal;
+use layout::Layout;
 use rules::limits;
 
 // The total of each task of a record that passed the tests, from the list's start on.
-pub fn put_totals(totals: &mut [u64], l: Loaded, lists: &[u64], image: &[u8], table: &[i64])
-    requires lists_len { (length lists.now ≡ all_lists) × Passed l.head lists.now l.maxchunks image.now table.now }
+pub fn put_totals(totals: &mut [u64], l: Loaded, lists: &[u64; LISTS], image: &[u8], table: &[i64])
+    requires passed { Passed l.head lists.now l.maxchunks image.now table.now }
     requires n_in_bounds { l.head.n ≤ length totals.old }
     ensures { totals.new ≡ splice totals.old 0 (list_below l.head.n (total (container_of Single l lists.now image.now table.now))) }
 {
@@ -40,7 +41,7 @@ pub fn totals_ok(totals: &[u64], n: usize) -> bool
     requires { n ≤ length totals.now }
     ensures { result ≡ all_below n (λ i. not (ltb max_size (get_or totals.now i 0))) }
 {
-    tables::greatest(totals, n) <= limit::MAX_SIZE
+    tables::greatest(&totals[..n]) <= limit::MAX_SIZE
 }
 
 // The size of each of n tasks: its total, at least 1.
@@ -104,36 +105,45 @@ pub fn packed_end(h: Head, totals: &[u64]) -> u64
     put_sizes(&mut sizes, totals, n);
     let mut counts = [0; limit::MAX_TASKS];
     put_counts(&mut counts, totals, n, h.format);
-    let most = tables::greatest(&counts, n) as u32;
-    layout::meta2_end(&sizes, h.n, h.blocksize, most)
+    let most = tables::greatest(&counts[..n]) as u32;
+    let layout = Layout {
+        n: h.n,
+        blocksize: h.blocksize,
+        sizes: &sizes,
+    };
+    layout.meta2_end(most)
 }
 
 // Tests 17, 18 and 19, and then 9; where they pass, the totals stand at the start of the list.
-pub fn plan(totals: &mut [u64], l: Loaded, lists: &[u64], image: &[u8], table: &[i64]) -> u32
-    requires { (length lists.now ≡ all_lists) × (max_tasks ≤ length totals.old) }
-    ensures value { result ≡ first_failing (pack_tests (container_of Single l lists.now image.now table.now)) }
-    ensures totals_after { result ≡ 0 → totals.new ≡ splice totals.old 0 (list_below l.head.n (total (container_of Single l lists.now image.now table.now))) }
+pub fn plan(
+    totals: &mut [u64],
+    l: Loaded,
+    lists: &[u64; LISTS],
+    image: &[u8],
+    table: &[i64],
+) -> Result<(), Refusal>
+    requires { max_tasks ≤ length totals.old }
+    ensures value { answered result ≡ first_failing (pack_tests (container_of Single l lists.now image.now table.now)) }
+    ensures totals_after { OnOk result (totals.new ≡ splice totals.old 0 (list_below l.head.n (total (container_of Single l lists.now image.now table.now)))) }
 {
-    let refusal = records::loaded_refusal(File::Single, l, lists, image, table);
-    if refusal != 0 {
-        return refusal;
-    }
+    records::test_loaded(File::Single, l, lists, image, table)?;
     put_totals(totals, l, lists, image, table);
     if !totals_ok(totals, l.head.n as usize) {
-        return refusal::BAD_SIZE;
+        return Err(Refusal::BadSize);
     }
-    0
+    Ok(())
 }
 
 // The length of the packed container, beforehand.
-pub fn packed_length(l: Loaded, lists: &[u64; LISTS], image: &[u8], table: &[i64]) -> ByteCount
-    ensures { result ≡ pack_needs (container_of Single l lists.now image.now table.now) }
+pub fn packed_length(
+    l: Loaded,
+    lists: &[u64; LISTS],
+    image: &[u8],
+    table: &[i64],
+) -> Result<u64, Refusal>
+    ensures { byte_count result ≡ pack_needs (container_of Single l lists.now image.now table.now) }
 {
     let mut totals = [0; limit::MAX_TASKS];
-    let refusal = plan(&mut totals, l, lists, image, table);
-    if refusal != 0 {
-        return ByteCount { refusal, bytes: 0 };
-    }
-    let bytes = packed_end(l.head, &totals);
-    ByteCount { refusal: 0, bytes }
+    plan(&mut totals, l, lists, image, table)?;
+    Ok(packed_end(l.head, &totals))
 }

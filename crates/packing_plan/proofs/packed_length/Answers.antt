@@ -1,49 +1,32 @@
 -- The answer by cases of what `plan` says.
-use mathlib.Core.Path.{◌≡◌, sym, ◌∙◌}
-use mathlib.Core.Bool.{true}
-use Prim.Native.Nat.{◌≤◌}
+use mathlib.Core.Path.{sym, ◌∙◌}
 use native.Mathlib.Omega.{arith}
-use Rattle.format.specs.declared.head.File.TheVariants.{Single}
-use Rattle.format.specs.Limits.{max_tasks}
-use Rattle.format.specs.Refusals.{first_failing}
-use Rattle.format.specs.Record.{head_sound}
-use Rattle.format.specs.Reads.{Container, container_of}
+use Rattle.std.proofs.lemmas.Result.{err_from_is_err_and}
 use Rattle.format.proofs.Passing.{head_tasks, head_block}
-use Rattle.packs.specs.Pack.{pack_tests}
 use Rattle.packs.proofs.Packed.{passed}
 use Rattle.packing_plan.proofs.Planned.{each, as_long, small_is, all_small, refused, accepted}
 use Rattle.packing_plan.proofs.packed_length.Goals as goal
 
-pub returns-then-refusal-ne0 : goal.returns-then-refusal-ne0
-returns-then-refusal-ne0 c =
-    let given : Container = let a = c.args in container_of Single a.l a.lists.now a.image.now a.table.now in
-    refused given _ c.plan-refusal.ensures.value (omega (arith, c.if-refusal-ne0.true))
+pub returns-in_err-plan : goal.returns-in_err-plan
+returns-in_err-plan c =
+    let p = err_from_is_err_and c.from_residual.result c.from_residual.ensures.1 in
+    rw (p.1, p.2) (refused _ _ c.in_err-plan.ensures.value)
 
-pub packed_end-bytes-requires-clause-blocksize_value : goal.packed_end-bytes-requires-clause-blocksize_value
-packed_end-bytes-requires-clause-blocksize_value c =
-    let given : Container = let a = c.args in container_of Single a.l a.lists.now a.image.now a.table.now in
-    let passes : first_failing (pack_tests given) ≡ 0 = sym c.plan-refusal.ensures.value ∙ c.if-refusal-ne0.false in
-    let head_kept : head_sound c.args.l.head c.args.lists.now ≡ true = (passed given passes).head in
-    let few : c.args.l.head.n ≤ max_tasks = (head_tasks _ _ head_kept).1 in
-    let put = c.plan-refusal.ensures.totals_after c.if-refusal-ne0.false in
-    let long = as_long _ _ _ _ (omega (arith, few)) put in
-    (head_block _ _ head_kept, few, omega (arith, few, long))
+pub packed_end-requires-clause-blocksize_value : goal.packed_end-requires-clause-blocksize_value
+packed_end-requires-clause-blocksize_value c =
+    let head = (passed _ (sym c.in_ok-plan.ensures.value)).head in
+    let few = (head_tasks _ _ head).1 in
+    let long = as_long _ _ _ _ (omega (arith, few)) c.in_ok-plan.ensures.totals_after in
+    (head_block _ _ head, few, omega (arith, few, long))
 
-pub packed_end-bytes-requires-clause-i_value : goal.packed_end-bytes-requires-clause-i_value
-packed_end-bytes-requires-clause-i_value c =
-    let given : Container = let a = c.args in container_of Single a.l a.lists.now a.image.now a.table.now in
-    let passes : first_failing (pack_tests given) ≡ 0 = sym c.plan-refusal.ensures.value ∙ c.if-refusal-ne0.false in
-    let head_kept : head_sound c.args.l.head c.args.lists.now ≡ true = (passed given passes).head in
-    let few : c.args.l.head.n ≤ max_tasks = (head_tasks _ _ head_kept).1 in
-    let put = c.plan-refusal.ensures.totals_after c.if-refusal-ne0.false in
-    let same = small_is _ _ _ _ (omega (arith, few)) put in
-    same ∙ all_small given passes
+pub packed_end-requires-clause-i_value : goal.packed_end-requires-clause-i_value
+packed_end-requires-clause-i_value c =
+    let passes = c.in_ok-plan.ensures.value in
+    let few = (head_tasks _ _ (passed _ (sym passes)).head).1 in
+    small_is _ _ _ _ (omega (arith, few)) c.in_ok-plan.ensures.totals_after ∙ all_small _ passes
 
 pub returns : goal.returns
 returns c =
-    let given : Container = let a = c.args in container_of Single a.l a.lists.now a.image.now a.table.now in
-    let passes : first_failing (pack_tests given) ≡ 0 = sym c.plan-refusal.ensures.value ∙ c.if-refusal-ne0.false in
-    let head_kept : head_sound c.args.l.head c.args.lists.now ≡ true = (passed given passes).head in
-    let few : c.args.l.head.n ≤ max_tasks = (head_tasks _ _ head_kept).1 in
-    let put = c.plan-refusal.ensures.totals_after c.if-refusal-ne0.false in
-    accepted given c.plan-refusal.new.totals (each _ _ _ _ (omega (arith, few)) put) _ passes c.packed_end-bytes.ensures
+    let passes = c.in_ok-plan.ensures.value in
+    let few = (head_tasks _ _ (passed _ (sym passes)).head).1 in
+    accepted _ _ (each _ _ _ _ (omega (arith, few)) c.in_ok-plan.ensures.totals_after) _ passes c.packed_end.ensures

@@ -10,6 +10,7 @@ use borrow.Author.Tests.{leb-true, leb-false, ltb-false, le-ltb, not-true}
 use Rattle.lists.specs.Below.{all_below, greatest_below}
 use Rattle.lists.proofs.Below.{all_at, all_of, greatest_le, greatest_ge}
 use Rattle.format.specs.Limits.{max_size}
+use Rattle.tables.proofs.Counts.{greatest_taken}
 use Rattle.packing_plan.proofs.totals_ok.Goals as goal
 
 module _ (f : ℕ → ℕ) (n : ℕ) where
@@ -33,4 +34,6 @@ module _ (f : ℕ → ℕ) (n : ℕ) where
           absurd (omega (arith, leb-false (greatest_below n f) max_size e))
 
 pub returns : goal.returns
-returns c = rw c.greatest.ensures (within (λ i. get_or c.args.totals.now i 0) c.args.n)
+returns c =
+    let a = c.args in
+    rw (c.greatest.ensures, greatest_taken a.n a.totals.now c.requires) (within (λ i. get_or a.totals.now i 0) a.n)
