@@ -9,7 +9,7 @@ ghost use Rattle.format.specs.Limits.{blocksize_rule, max_tasks};
 ghost use Rattle.format.specs.Layout.{data_start, globalskip};
 ghost use Rattle.format.specs.Meta1.{fixed_length};
 ghost use Rattle.format.specs.Refusals.{first_failing};
-ghost use Rattle.format.specs.Record.{entry, file_in, all_lists, rank_of};
+ghost use Rattle.format.specs.Record.{entry, file_in, rank_of};
 ghost use Rattle.format.specs.declared.head.Head.{Head};
 ghost use Rattle.format.specs.declared.loaded.Loaded.{Loaded};
 ghost use Rattle.format.specs.Reads.{container_of, stream_of, total_of};
@@ -18,7 +18,7 @@ ghost use Rattle.emit.specs.Parts.{first_fields};
 ghost use Rattle.packs.specs.Pack.{pack_tests, packed_size, packed_chunk};
 ghost use Rattle.packing_stores.specs.Front.{own_fields, front_bytes};
 
-use format::head::Head;
+use format::head::{Head, LISTS};
 use format::loaded::Loaded;
 use format::{field, head};
 use stores::memory;
@@ -28,7 +28,7 @@ pub fn put_stream(
     second: &mut [u8],
     at: usize,
     l: Loaded,
-    lists: &[u64],
+    lists: &[u64; LISTS],
     image: &[u8],
     table: &[i64],
     task: u64,
@@ -56,7 +56,7 @@ pub fn put_chunk(
     at: usize,
     holds: usize,
     l: Loaded,
-    lists: &[u64],
+    lists: &[u64; LISTS],
     image: &[u8],
     table: &[i64],
     task: u64,
@@ -75,13 +75,13 @@ pub fn put_chunk(
 pub fn put_chunks(
     second: &mut [u8],
     l: Loaded,
-    lists: &[u64],
+    lists: &[u64; LISTS],
     image: &[u8],
     table: &[i64],
     sizes: &[u64],
     budget: u64,
 ) -> u64
-    requires lists_len { (length lists.now ≡ all_lists) × (first_failing (pack_tests (container_of (file_in l.head) l lists.now image.now table.now)) ≡ 0) }
+    requires passes { first_failing (pack_tests (container_of (file_in l.head) l lists.now image.now table.now)) ≡ 0 }
     requires sizes_value { take l.head.n sizes.now ≡ list_below l.head.n (packed_size (container_of (file_in l.head) l lists.now image.now table.now)) }
     requires table_in_bounds { data_start l.head.blocksize l.head.n + globalskip l.head.blocksize l.head.n (packed_size (container_of (file_in l.head) l lists.now image.now table.now)) ≤ length second.old }
     ensures { Spends budget second.old (data_start l.head.blocksize l.head.n) (join_below l.head.n (packed_chunk (container_of (file_in l.head) l lists.now image.now table.now))) second.new result }
@@ -117,14 +117,14 @@ fn put_fields(second: &mut [u8], h: Head, big: bool, image: &[u8], budget: u64) 
 pub fn put_front(
     second: &mut [u8],
     h: Head,
-    lists: &[u64],
+    lists: &[u64; LISTS],
     image: &[u8],
     sizes: &[u64],
     maxchunks: u32,
     start: u64,
     budget: u64,
 ) -> u64
-    requires blocksize_value { (blocksize_rule (pos h.blocksize) ≡ true) × (h.n ≤ max_tasks) × (length lists.now ≡ all_lists) }
+    requires blocksize_value { (blocksize_rule (pos h.blocksize) ≡ true) × (h.n ≤ max_tasks) }
     requires n_in_bounds { (h.n ≤ length sizes.now) × (fixed_length ≤ length image.now) × (data_start h.blocksize h.n ≤ length second.old) }
     ensures { Spends budget second.old 1 (drop 1 (front_bytes h (rank_of lists.now) (entry sizes.now) image.now maxchunks start)) second.new result }
 {
@@ -133,8 +133,8 @@ pub fn put_front(
     let from = layout::meta1_end(h.n) as usize;
     let end = layout::data_start(h.n, h.blocksize) as usize;
     let left = put_fields(second, h, big, image, budget);
-    let left = runs::put_list(second, field::RANKS_AT, &lists[..head::SIZES], n, big, left);
-    let left = runs::put_list(second, layout::sizes_at(n), sizes, n, big, left);
+    let left = runs::put_list(second, field::RANKS_AT, &lists[..n], big, left);
+    let left = runs::put_list(second, layout::sizes_at(n), &sizes[..n], big, left);
     let left = emit::last_fields(second, h.n, big, maxchunks, start, left);
     runs::put_zeros(second, from, end, left)
 }

@@ -58,7 +58,7 @@ pub data_start-place-requires : goal.data_start-place-requires
 data_start-place-requires c =
     let a = c.args in
     let given : Container = container_of (file_in a.l.head) a.l a.lists.now a.image.now a.table.now in
-    block given c.requires.lists_len.1 a.sizes.now c.requires.sizes_value
+    block given c.requires.passes a.sizes.now c.requires.sizes_value
 
 pub loop-i-init : goal.loop-i-init
 unfolding join_below
@@ -67,13 +67,13 @@ loop-i-init c = (rw c.data_start-place.ensures (run_none c.args.budget c.args.se
 pub slice_bounds-size-items-end : goal.slice_bounds-size-items-end
 slice_bounds-size-items-end c =
     let a = c.args in
-    sym (long (container_of (file_in a.l.head) a.l a.lists.now a.image.now a.table.now) c.requires.lists_len.1 a.sizes.now c.requires.sizes_value)
+    sym (long (container_of (file_in a.l.head) a.l a.lists.now a.image.now a.table.now) c.requires.passes a.sizes.now c.requires.sizes_value)
 
 pub chunk_holds-holds-requires : goal.chunk_holds-holds-requires
 chunk_holds-holds-requires c =
     let a = c.args in
     let given : Container = container_of (file_in a.l.head) a.l a.lists.now a.image.now a.table.now in
-    let e = c.requires.lists_len.1 in
+    let e = c.requires.passes in
     let same = c.requires.sizes_value in
     let i = c.loop-i.i in
     let here = turn given e a.sizes.now same c.loop-i-test.true in
@@ -83,18 +83,18 @@ pub put_chunk-left-requires-clause-readable : goal.put_chunk-left-requires-claus
 put_chunk-left-requires-clause-readable c =
     let a = c.args in
     let given : Container = container_of (file_in a.l.head) a.l a.lists.now a.image.now a.table.now in
-    let e = c.requires.lists_len.1 in
-    task_readable given e c.requires.lists_len.0 c.loop-i.i (turn given e a.sizes.now c.requires.sizes_value c.loop-i-test.true)
+    let e = c.requires.passes in
+    task_readable given e c.told-lists c.loop-i.i (turn given e a.sizes.now c.requires.sizes_value c.loop-i-test.true)
 
 pub put_chunk-left-requires-clause-task_bound : goal.put_chunk-left-requires-clause-task_bound
 put_chunk-left-requires-clause-task_bound c =
     let a = c.args in
     let given : Container = container_of (file_in a.l.head) a.l a.lists.now a.image.now a.table.now in
-    let e = c.requires.lists_len.1 in
+    let e = c.requires.passes in
     let same = c.requires.sizes_value in
     let l = c.loop-i in
     let here = turn given e a.sizes.now same c.loop-i-test.true in
-    let holds = c.chunk_holds-holds.ensures in (
+    let holds = c.chunk_holds-holds.ensures.holds in (
       omega (arith, held given e a.sizes.now same l.i here _ holds, total_fits given e l.i),
       room given e a.sizes.now same l.i here _ holds _ _ l.place c.requires.table_in_bounds l.auto.second l.invariant.ends,
     )
@@ -103,11 +103,11 @@ pub overflow_add-place : goal.overflow_add-place
 overflow_add-place c =
     let a = c.args in
     let given : Container = container_of (file_in a.l.head) a.l a.lists.now a.image.now a.table.now in
-    let e = c.requires.lists_len.1 in
+    let e = c.requires.passes in
     let l = c.loop-i in
     let here = turn given e a.sizes.now c.requires.sizes_value c.loop-i-test.true in
     let fits =
-    room given e a.sizes.now c.requires.sizes_value l.i here _ c.chunk_holds-holds.ensures _ _ l.place
+    room given e a.sizes.now c.requires.sizes_value l.i here _ c.chunk_holds-holds.ensures.holds _ _ l.place
     c.requires.table_in_bounds l.auto.second l.invariant.ends in
     omega (arith, fits)
 
@@ -116,13 +116,13 @@ unfolding packed_chunk
 loop-i-preserved c =
     let a = c.args in
     let given : Container = container_of (file_in a.l.head) a.l a.lists.now a.image.now a.table.now in
-    let e = c.requires.lists_len.1 in
+    let e = c.requires.passes in
     let l = c.loop-i in
     let here = turn given e a.sizes.now c.requires.sizes_value c.loop-i-test.true in
     let holds = c.chunk_holds-holds.result in
-    let same = held given e a.sizes.now c.requires.sizes_value l.i here holds c.chunk_holds-holds.ensures in
+    let same = held given e a.sizes.now c.requires.sizes_value l.i here holds c.chunk_holds-holds.ensures.holds in
     let fits =
-    room given e a.sizes.now c.requires.sizes_value l.i here holds c.chunk_holds-holds.ensures _ _ l.place c.requires.table_in_bounds
+    room given e a.sizes.now c.requires.sizes_value l.i here holds c.chunk_holds-holds.ensures.holds _ _ l.place c.requires.table_in_bounds
     l.auto.second l.invariant.ends in
     let chunk = packed_chunk given l.i in
     let long = chunk_long given e l.i here ∙ sym same in
@@ -137,5 +137,5 @@ returns c =
     let given : Container = container_of (file_in a.l.head) a.l a.lists.now a.image.now a.table.now in
     let l = c.loop-i in
     let last : l.i ≡ a.l.head.n =
-    le_antisymm l.auto.i-end c.loop-i-test.false ∙ long given c.requires.lists_len.1 a.sizes.now c.requires.sizes_value in
+    le_antisymm l.auto.i-end c.loop-i-test.false ∙ long given c.requires.passes a.sizes.now c.requires.sizes_value in
     spends_same refl (ap (λ (k : ℕ). join_below k (packed_chunk given)) last) l.invariant.spends
