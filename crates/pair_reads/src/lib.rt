@@ -2,113 +2,91 @@
 // parameter whose name ends in 0 or 1 is of that file.
 #![tactic(auto)]
 
-ghost use Rattle.std.specs.Prelude.{◌≡◌, cond, ◌+◌, ◌≤◌, eqb, length};
+ghost use Rattle.std.specs.Prelude.{◌≡◌, cond, ◌+◌, ◌≤◌, eqb, length, IfOk};
 ghost use Rattle.format.specs.declared.head.File.TheVariants.{First, Second};
 ghost use Rattle.format.specs.declared.loaded.Loaded.{Loaded};
-ghost use Rattle.format.specs.declared.loaded.ByteCount.{ByteCount};
-ghost use Rattle.format.specs.Refusals.{first_failing};
-ghost use Rattle.format.specs.Record.{all_lists};
-ghost use Rattle.format.specs.Reads.{container_of, total_of};
-ghost use Rattle.pairs.specs.declared.PairPart.{PairPart};
-ghost use Rattle.pairs.specs.Reads.{loaded_pair, file_there, task_there, pair_read_tests, pair_chunk_refusal, pair_chunk, pair_part, pair_total, pair_read_answer, pair_read_output};
+ghost use Rattle.format.specs.Refusals.{first_failing, answered};
+ghost use Rattle.format.specs.Answers.{byte_count};
+ghost use Rattle.format.specs.Record.{file_in};
+ghost use Rattle.format.specs.Reads.{container_of, chunk_bytes};
+ghost use Rattle.pairs.specs.Answers.{pair_part_of};
+ghost use Rattle.pairs.specs.Reads.{loaded_pair, file_there, task_there, pair_read_tests, pair_chunk_refusal, pair_part, pair_total, pair_read_answer, pair_read_output};
+ghost use Rattle.pair_reads.specs.Found.{Found};
 
 use format::head::LISTS;
-use format::loaded::{ByteCount, Loaded};
-use format::{head, refusal};
-use pairs::PairPart;
+use format::loaded::Loaded;
+use format::refusal::Refusal;
+use pairs::PairPlace;
+
+// The file of a pair that has the task of a rank, by its number, and the task there, counted from 1.
+#[derive(Clone, Copy)]
+struct Carrier<'a> {
+    file: u32,
+    l: Loaded,
+    lists: &'a [u64; LISTS],
+    image: &'a [u8],
+    table: &'a [i64],
+    task: u64,
+}
 
 // Tests 17, 18 and 19 of both files, and 14.
-fn read_refusal(
+fn carrier_of<'a>(
     l0: Loaded,
-    lists0: &[u64],
-    image0: &[u8],
-    table0: &[i64],
-    l1: Loaded,
-    lists1: &[u64],
-    image1: &[u8],
-    table1: &[i64],
-    rank: u64,
-) -> u32
-    requires { (length lists0.now ≡ all_lists) × (length lists1.now ≡ all_lists) }
-    ensures { result ≡ first_failing (pair_read_tests (loaded_pair (container_of First l0 lists0.now image0.now table0.now) (container_of Second l1 lists1.now image1.now table1.now)) rank) }
-{
-    let first = pair_records::loaded_refusal(
-        l0, lists0, image0, table0, l1, lists1, image1, table1,
-    );
-    if first != 0 {
-        return first;
-    }
-    if l0.head.n as u64 + l1.head.n as u64 <= rank {
-        return refusal::NO_TASK;
-    }
-    0
-}
-
-// Why `chunk` hands back the empty part, or 0.
-pub fn chunk_refusal(
-    l0: Loaded,
-    lists0: &[u64; LISTS],
-    image0: &[u8],
-    table0: &[i64],
-    l1: Loaded,
-    lists1: &[u64; LISTS],
-    image1: &[u8],
-    table1: &[i64],
-    rank: u64,
-    chunk: u64,
-) -> u32
-    ensures { result ≡ pair_chunk_refusal (loaded_pair (container_of First l0 lists0.now image0.now table0.now) (container_of Second l1 lists1.now image1.now table1.now)) rank chunk }
-{
-    let first = read_refusal(l0, lists0, image0, table0, l1, lists1, image1, table1, rank);
-    if first != 0 {
-        return first;
-    }
-    if chunk < 1 {
-        return refusal::NO_CHUNK;
-    }
-    let task = ranks::task_of(lists0, l0.head.n, lists1, l1.head.n, rank);
-    let n = l0.head.n as u64;
-    let used = if n < task {
-        lists1[head::COUNTS + (task - n - 1) as usize]
-    } else {
-        lists0[head::COUNTS + (task - 1) as usize]
-    };
-    if used < chunk {
-        return refusal::NO_CHUNK;
-    }
-    0
-}
-
-// The written bytes of one chunk, as a part of the image that holds it; the empty part of file 0's where `chunk_refusal` has a number.
-pub fn chunk<'a>(
-    l0: Loaded,
-    lists0: &[u64; LISTS],
+    lists0: &'a [u64; LISTS],
     image0: &'a [u8],
-    table0: &[i64],
+    table0: &'a [i64],
     l1: Loaded,
-    lists1: &[u64; LISTS],
+    lists1: &'a [u64; LISTS],
     image1: &'a [u8],
-    table1: &[i64],
+    table1: &'a [i64],
     rank: u64,
-    chunk: u64,
-) -> &'a [u8]
-    ensures { result.now ≡ pair_chunk (loaded_pair (container_of First l0 lists0.now image0.now table0.now) (container_of Second l1 lists1.now image1.now table1.now)) rank chunk }
+) -> Result<Carrier<'a>, Refusal>
+    ensures value { answered result ≡ first_failing (pair_read_tests (loaded_pair (container_of First l0 lists0.now image0.now table0.now) (container_of Second l1 lists1.now image1.now table1.now)) rank) }
+    ensures found { IfOk result (λ carrier. Found (loaded_pair (container_of First l0 lists0.now image0.now table0.now) (container_of Second l1 lists1.now image1.now table1.now)) rank carrier.file (container_of (file_in carrier.l.head) carrier.l carrier.lists.now carrier.image.now carrier.table.now) carrier.task) }
 {
-    let refusal = chunk_refusal(
-        l0, lists0, image0, table0, l1, lists1, image1, table1, rank, chunk,
-    );
-    if refusal != 0 {
-        return &image0[0..0];
-    }
-    let task = ranks::task_of(lists0, l0.head.n, lists1, l1.head.n, rank);
+    pair_records::test_loaded(l0, lists0, image0, table0, l1, lists1, image1, table1)?;
+    let task = ranks::task_of(lists0, l0.head.n, lists1, l1.head.n, rank).ok_or(Refusal::NoTask)?;
     let n = l0.head.n as u64;
     if n < task {
-        return chunks::chunk_part(l1, lists1, image1, table1, task - n, chunk);
+        return Ok(Carrier {
+            file: 1,
+            l: l1,
+            lists: lists1,
+            image: image1,
+            table: table1,
+            task: task - n,
+        });
     }
-    chunks::chunk_part(l0, lists0, image0, table0, task, chunk)
+    Ok(Carrier {
+        file: 0,
+        l: l0,
+        lists: lists0,
+        image: image0,
+        table: table0,
+        task,
+    })
 }
 
-// The place of that part, in which of the two images, beside the number of `chunk_refusal`: for callers that cannot be handed a part.
+// Tests 17, 18 and 19 of both files, 14, and 22 of a chunk.
+pub fn test_chunk(
+    l0: Loaded,
+    lists0: &[u64; LISTS],
+    image0: &[u8],
+    table0: &[i64],
+    l1: Loaded,
+    lists1: &[u64; LISTS],
+    image1: &[u8],
+    table1: &[i64],
+    rank: u64,
+    chunk: u64,
+) -> Result<(), Refusal>
+    ensures { answered result ≡ pair_chunk_refusal (loaded_pair (container_of First l0 lists0.now image0.now table0.now) (container_of Second l1 lists1.now image1.now table1.now)) rank chunk }
+{
+    let carrier = carrier_of(l0, lists0, image0, table0, l1, lists1, image1, table1, rank)?;
+    chunks::test_used(carrier.lists, carrier.task, chunk)
+}
+
+// Where the written bytes of one chunk lie, in which of the two images: for callers that cannot be handed a part of it.
 pub fn part(
     l0: Loaded,
     lists0: &[u64; LISTS],
@@ -120,63 +98,49 @@ pub fn part(
     table1: &[i64],
     rank: u64,
     chunk: u64,
-) -> PairPart
-    ensures value { result ≡ pair_part (loaded_pair (container_of First l0 lists0.now image0.now table0.now) (container_of Second l1 lists1.now image1.now table1.now)) rank chunk }
-    ensures length_in_bounds { result.start + result.length ≤ length (cond (eqb result.file 0) image0.now image1.now) }
+) -> Result<PairPlace, Refusal>
+    ensures value { pair_part_of result ≡ pair_part (loaded_pair (container_of First l0 lists0.now image0.now table0.now) (container_of Second l1 lists1.now image1.now table1.now)) rank chunk }
+    ensures length_in_bounds { IfOk result (λ place. place.start + place.length ≤ length (cond (eqb place.file 0) image0.now image1.now)) }
 {
-    let refusal = chunk_refusal(
-        l0, lists0, image0, table0, l1, lists1, image1, table1, rank, chunk,
+    let carrier = carrier_of(l0, lists0, image0, table0, l1, lists1, image1, table1, rank)?;
+    chunks::test_used(carrier.lists, carrier.task, chunk)?;
+    let place = chunks::place_of(
+        carrier.l,
+        carrier.lists,
+        carrier.image,
+        carrier.table,
+        carrier.task,
+        chunk,
     );
-    if refusal != 0 {
-        return PairPart {
-            refusal,
-            file: 0,
-            start: 0,
-            length: 0,
-        };
-    }
-    let task = ranks::task_of(lists0, l0.head.n, lists1, l1.head.n, rank);
-    let n = l0.head.n as u64;
-    if n < task {
-        let part = chunks::part_of(l1, lists1, image1, table1, task - n, chunk);
-        return PairPart {
-            refusal: 0,
-            file: 1,
-            start: part.start,
-            length: part.length,
-        };
-    }
-    let part = chunks::part_of(l0, lists0, image0, table0, task, chunk);
-    PairPart {
-        refusal: 0,
-        file: 0,
-        start: part.start,
-        length: part.length,
-    }
+    Ok(PairPlace {
+        file: carrier.file,
+        start: place.start,
+        length: place.length,
+    })
 }
 
-// The bytes over all its chunks of a task that the tests allow.
-fn total_of(
+// These bytes themselves, as a part of the image that holds them.
+pub fn chunk<'a>(
     l0: Loaded,
-    lists0: &[u64],
-    image0: &[u8],
+    lists0: &[u64; LISTS],
+    image0: &'a [u8],
     table0: &[i64],
     l1: Loaded,
-    lists1: &[u64],
-    image1: &[u8],
+    lists1: &[u64; LISTS],
+    image1: &'a [u8],
     table1: &[i64],
     rank: u64,
-) -> u64
-    requires lists0_len { (length lists0.now ≡ all_lists) × (length lists1.now ≡ all_lists) }
-    requires rank_value { first_failing (pair_read_tests (loaded_pair (container_of First l0 lists0.now image0.now table0.now) (container_of Second l1 lists1.now image1.now table1.now)) rank) ≡ 0 }
-    ensures { result ≡ total_of (file_there (loaded_pair (container_of First l0 lists0.now image0.now table0.now) (container_of Second l1 lists1.now image1.now table1.now)) rank) (task_there (loaded_pair (container_of First l0 lists0.now image0.now table0.now) (container_of Second l1 lists1.now image1.now table1.now)) rank) }
+    chunk: u64,
+) -> Result<&'a [u8], Refusal>
+    ensures value { answered result ≡ pair_chunk_refusal (loaded_pair (container_of First l0 lists0.now image0.now table0.now) (container_of Second l1 lists1.now image1.now table1.now)) rank chunk }
+    ensures bytes { IfOk result (λ part. part.now ≡ chunk_bytes (file_there (loaded_pair (container_of First l0 lists0.now image0.now table0.now) (container_of Second l1 lists1.now image1.now table1.now)) rank) (task_there (loaded_pair (container_of First l0 lists0.now image0.now table0.now) (container_of Second l1 lists1.now image1.now table1.now)) rank) chunk) }
 {
-    let task = ranks::task_of(lists0, l0.head.n, lists1, l1.head.n, rank);
-    let n = l0.head.n as u64;
-    if n < task {
-        return reads::total_of(l1, lists1, image1, table1, task - n);
-    }
-    reads::total_of(l0, lists0, image0, table0, task)
+    let place = part(
+        l0, lists0, image0, table0, l1, lists1, image1, table1, rank, chunk,
+    )?;
+    let image = if place.file == 0 { image0 } else { image1 };
+    let start = place.start as usize;
+    Ok(&image[start..start + place.length as usize])
 }
 
 // A task's bytes over all its chunks.
@@ -190,18 +154,20 @@ pub fn total(
     image1: &[u8],
     table1: &[i64],
     rank: u64,
-) -> ByteCount
-    ensures { result ≡ pair_total (loaded_pair (container_of First l0 lists0.now image0.now table0.now) (container_of Second l1 lists1.now image1.now table1.now)) rank }
+) -> Result<u64, Refusal>
+    ensures { byte_count result ≡ pair_total (loaded_pair (container_of First l0 lists0.now image0.now table0.now) (container_of Second l1 lists1.now image1.now table1.now)) rank }
 {
-    let refusal = read_refusal(l0, lists0, image0, table0, l1, lists1, image1, table1, rank);
-    if refusal != 0 {
-        return ByteCount { refusal, bytes: 0 };
-    }
-    let bytes = total_of(l0, lists0, image0, table0, l1, lists1, image1, table1, rank);
-    ByteCount { refusal: 0, bytes }
+    let carrier = carrier_of(l0, lists0, image0, table0, l1, lists1, image1, table1, rank)?;
+    Ok(reads::total_of(
+        carrier.l,
+        carrier.lists,
+        carrier.image,
+        carrier.table,
+        carrier.task,
+    ))
 }
 
-// A task's stream from the place p on, copied into out across chunks.
+// A task's stream from the place p on, copied into out across chunks: the bytes copied.
 pub fn read(
     l0: Loaded,
     lists0: &[u64; LISTS],
@@ -214,27 +180,29 @@ pub fn read(
     rank: u64,
     p: u64,
     out: &mut [u8],
-) -> ByteCount
-    ensures value { result ≡ pair_read_answer (loaded_pair (container_of First l0 lists0.now image0.now table0.now) (container_of Second l1 lists1.now image1.now table1.now)) rank p out.old }
+) -> Result<usize, Refusal>
+    ensures value { byte_count result ≡ pair_read_answer (loaded_pair (container_of First l0 lists0.now image0.now table0.now) (container_of Second l1 lists1.now image1.now table1.now)) rank p out.old }
     ensures out_after { out.new ≡ pair_read_output (loaded_pair (container_of First l0 lists0.now image0.now table0.now) (container_of Second l1 lists1.now image1.now table1.now)) rank p out.old }
+    ensures in_bounds { IfOk result (λ copied. copied ≤ length out.old) }
 {
-    let refusal = read_refusal(l0, lists0, image0, table0, l1, lists1, image1, table1, rank);
-    if refusal != 0 {
-        return ByteCount { refusal, bytes: 0 };
+    let carrier = carrier_of(l0, lists0, image0, table0, l1, lists1, image1, table1, rank)?;
+    if reads::total_of(
+        carrier.l,
+        carrier.lists,
+        carrier.image,
+        carrier.table,
+        carrier.task,
+    ) < p
+    {
+        return Err(Refusal::PastTotal);
     }
-    let total = total_of(l0, lists0, image0, table0, l1, lists1, image1, table1, rank);
-    if total < p {
-        return ByteCount {
-            refusal: refusal::PAST_TOTAL,
-            bytes: 0,
-        };
-    }
-    let task = ranks::task_of(lists0, l0.head.n, lists1, l1.head.n, rank);
-    let n = l0.head.n as u64;
-    if n < task {
-        let bytes = reads::copy_stream(l1, lists1, image1, table1, task - n, p, out) as u64;
-        return ByteCount { refusal: 0, bytes };
-    }
-    let bytes = reads::copy_stream(l0, lists0, image0, table0, task, p, out) as u64;
-    ByteCount { refusal: 0, bytes }
+    Ok(reads::copy_stream(
+        carrier.l,
+        carrier.lists,
+        carrier.image,
+        carrier.table,
+        carrier.task,
+        p,
+        out,
+    ))
 }

@@ -1,70 +1,64 @@
--- The empty part where a test fails, and else the chunk's bytes in the file that has the rank.
-use mathlib.Core.Path.{sym, ◌∙◌}
-use Prim.Native.Nat.{ℕ}
+-- The number and the bytes of what `part` answers.
+use mathlib.Core.Path.{◌≡◌, refl, sym, ap, ◌∙◌}
+use mathlib.Core.Bool.{Bool, true, false, cond}
+use Prim.Native.Nat.{ℕ, ◌+◌, ◌-◌}
 use native.Mathlib.Omega.{arith}
-use borrow.Author.Rules.{rules}
-use Rattle.format.specs.declared.head.File.TheVariants.{First, Second}
-use Rattle.format.specs.Reads.{container_of, chunk_bytes}
-use Rattle.format.proofs.Refusals.{when_accepted, when_refused}
-use Rattle.pairs.specs.Reads.{LoadedPair, loaded_pair, pair_chunk_refusal, pair_chunk}
-use Rattle.pair_reads.proofs.Finding.{few_tasks, in_file_0, in_file_1, there, chunk_tests_pass, chunk_allowed}
+use borrow.Author.Tests.{eq-eqb, ne_eqb}
+use lib.Dec.{eqb}
+use lib.ListN.{take, drop}
+use Rattle.std.specs.Prelude.{Ok}
+use Rattle.std.proofs.lemmas.Result.{err_from_is_err_and}
+use Rattle.format.specs.Reads.{chunk_place, chunk_bytes}
+use Rattle.format.proofs.Refusals.{number_is, when_accepted}
+use Rattle.pairs.specs.declared.PairPart.{PairPart}
+use Rattle.pairs.specs.declared.PairPlace.{PairPlace}
+use Rattle.pairs.specs.Mapping.{file_of_rank}
+use Rattle.pairs.specs.Answers.{pair_part_of}
+use Rattle.pairs.specs.Reads.{LoadedPair, second?, file_there, task_there, pair_chunk_refusal, pair_part}
 use Rattle.pair_reads.proofs.chunk.Goals as goal
+use Rattle.pair_reads.proofs.chunk.Goals.{then-place-eq0, else-place-eq0}
 
-pub returns-then-refusal-ne0 : goal.returns-then-refusal-ne0
-unfolding pair_chunk
-returns-then-refusal-ne0 c =
-    let given : LoadedPair = let a = c.args in loaded_pair (container_of First a.l0 a.lists0.now a.image0.now a.table0.now)
-    (container_of Second a.l1 a.lists1.now a.image1.now a.table1.now) in
-    let refusal : ℕ = pair_chunk_refusal given c.args.rank c.args.chunk in
-    sym (when_refused refusal _ _ (omega (arith, c.chunk_refusal-refusal.ensures, c.if-refusal-ne0.true)))
+module _ (p : LoadedPair) (rank chunk : ℕ) where
+  number : (pair_part p rank chunk).refusal ≡ pair_chunk_refusal p rank chunk
+  unfolding pair_part
+  number = number_is (pair_chunk_refusal p rank chunk) _ _ (λ (part : PairPart). part.refusal) refl refl
 
-pub task_of-task-requires : goal.task_of-task-requires
-task_of-task-requires c =
-    let passes = sym c.chunk_refusal-refusal.ensures ∙ c.if-refusal-ne0.false in
-    let (few, few') = few_tasks _ _ (chunk_tests_pass _ _ _ passes) in (search rules, search rules, few, few')
+  answer : {part : PairPart} → part ≡ pair_part p rank chunk → part.refusal ≡ pair_chunk_refusal p rank chunk
+  answer e = ap (λ (part : PairPart). part.refusal) e ∙ number
 
-pub chunk_part-requires-clause-readable : goal.chunk_part-requires-clause-readable
-chunk_part-requires-clause-readable c =
-    let passes = sym c.chunk_refusal-refusal.ensures ∙ c.if-refusal-ne0.false in
-    let second = in_file_1 _ _ (chunk_tests_pass _ _ _ passes) _ c.task_of-task.ensures (search rules) c.if-n-task.true in
-    let r = chunk_allowed second _ passes in
-    r.0
+  -- the image by the file's number
+  image_is : cond (eqb (file_of_rank (second? p rank)) 0) p.first.image p.second.image ≡ (file_there p rank).image
+  image_is = go (second? p rank)
+    where
+      go : (second : Bool) → cond (eqb (file_of_rank second) 0) p.first.image p.second.image ≡ (cond second p.second p.first).image
+      go true = refl
+      go false = refl
 
-pub chunk_part-requires-clause-le_chunk : goal.chunk_part-requires-clause-le_chunk
-chunk_part-requires-clause-le_chunk c =
-    let passes = sym c.chunk_refusal-refusal.ensures ∙ c.if-refusal-ne0.false in
-    let second = in_file_1 _ _ (chunk_tests_pass _ _ _ passes) _ c.task_of-task.ensures (search rules) c.if-n-task.true in
-    let r = chunk_allowed second _ passes in
-    r.1
+  bytes : (place : PairPlace) → pair_part_of (Ok place) ≡ pair_part p rank chunk
+      → take place.length (drop place.start (cond (eqb place.file 0) p.first.image p.second.image))
+      ≡ chunk_bytes (file_there p rank) (task_there p rank) chunk
+  unfolding pair_part chunk_place chunk_bytes
+  bytes place e =
+      let is = e ∙ when_accepted (pair_chunk_refusal p rank chunk) _ _ (sym (answer e)) in
+      ap (λ (part : PairPart). take part.length (drop part.start (cond (eqb part.file 0) p.first.image p.second.image))) is
+      ∙ ap (take _) (ap (drop _) image_is)
 
-pub returns-then-n-task : goal.returns-then-n-task
-unfolding pair_chunk
-returns-then-n-task c =
-    let passes = sym c.chunk_refusal-refusal.ensures ∙ c.if-refusal-ne0.false in
-    let second = in_file_1 _ _ (chunk_tests_pass _ _ _ passes) _ c.task_of-task.ensures (search rules) c.if-n-task.true in
-    c.chunk_part.ensures
-    ∙ there second (λ f t. chunk_bytes f t c.args.chunk)
-    ∙ sym (when_accepted _ _ _ passes)
+pub returns-in_err-place-clause-value : goal.returns-in_err-place-clause-value
+returns-in_err-place-clause-value c =
+    let p = err_from_is_err_and c.from_residual.result c.from_residual.ensures.1 in
+    rw (p.1, p.2) (answer _ _ _ c.in_err-place.ensures.value)
 
-pub chunk_part-requires-2-clause-readable : goal.chunk_part-requires-2-clause-readable
-chunk_part-requires-2-clause-readable c =
-    let passes = sym c.chunk_refusal-refusal.ensures ∙ c.if-refusal-ne0.false in
-    let first = in_file_0 _ _ (chunk_tests_pass _ _ _ passes) _ c.task_of-task.ensures (search rules) c.if-n-task.false in
-    let r = chunk_allowed first _ passes in
-    r.0
+pub returns-clause-value : goal.returns-clause-value
+returns-clause-value c = answer _ _ _ c.in_ok-place.ensures.value
 
-pub chunk_part-requires-2-clause-le_chunk : goal.chunk_part-requires-2-clause-le_chunk
-chunk_part-requires-2-clause-le_chunk c =
-    let passes = sym c.chunk_refusal-refusal.ensures ∙ c.if-refusal-ne0.false in
-    let first = in_file_0 _ _ (chunk_tests_pass _ _ _ passes) _ c.task_of-task.ensures (search rules) c.if-n-task.false in
-    let r = chunk_allowed first _ passes in
-    r.1
-
-pub returns : goal.returns
-unfolding pair_chunk
-returns c =
-    let passes = sym c.chunk_refusal-refusal.ensures ∙ c.if-refusal-ne0.false in
-    let first = in_file_0 _ _ (chunk_tests_pass _ _ _ passes) _ c.task_of-task.ensures (search rules) c.if-n-task.false in
-    c.chunk_part-2.ensures
-    ∙ there first (λ f t. chunk_bytes f t c.args.chunk)
-    ∙ sym (when_accepted _ _ _ passes)
+pub returns-clause-bytes : goal.returns-clause-bytes
+returns-clause-bytes c =
+    let a = c.args in
+    let place = c.in_ok-place.place in
+    let cut : place.start + place.length - place.start ≡ place.length = omega arith in
+    let image : c.if-place-eq0.image.now ≡ cond (eqb place.file 0) a.image0.now a.image1.now
+    = elim c.if-place-eq0.branch [
+      | then-place-eq0 w ↦ rw (w.image-is, eq-eqb place.file 0 w.if-place-eq0.true) refl
+      | else-place-eq0 w ↦ rw (w.image-is, ne_eqb place.file 0 w.if-place-eq0.false) refl
+    ] in
+    rw (cut, image) (bytes _ _ _ place c.in_ok-place.ensures.value)

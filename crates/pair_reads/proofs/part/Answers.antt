@@ -1,86 +1,60 @@
--- Zeros beside a refusal, and else where the chunk's bytes lie in the file that has the rank.
-use mathlib.Core.Path.{◌≡◌, sym, ap, ◌∙◌}
-use mathlib.Core.Bool.{Bool}
-use Prim.Native.Nat.{ℕ, ◌<◌}
-use native.Mathlib.Omega.{arith}
-use borrow.Author.Rules.{rules}
-use Rattle.format.specs.declared.loaded.Part.{Part}
+-- The place in the file that has the rank, where the tests allow the chunk.
+use mathlib.Core.Path.{◌≡◌, refl, sym, ◌∙◌}
+use Prim.Native.Nat.{ℕ}
+use Rattle.std.specs.Prelude.{Ok, Err}
+use Rattle.std.proofs.lemmas.Result.{err_from_is_err_and}
+use Rattle.format.specs.declared.refusal.Refusal.{Refusal}
+use Rattle.format.specs.declared.loaded.Place.{Place}
+use Rattle.format.specs.Refusals.{number_of}
+use Rattle.format.specs.Answers.{part_of}
 use Rattle.format.specs.Reads.{Container, chunk_place}
-use Rattle.format.proofs.Refusals.{when_accepted, when_refused}
-use Rattle.pairs.specs.declared.PairPart.{PairPart}
-use Rattle.pairs.specs.Mapping.{file_of_rank}
+use Rattle.format.proofs.Refusals.{some_number, when_accepted, when_refused}
+use Rattle.pairs.specs.Answers.{pair_part_of}
 use Rattle.pairs.specs.Reads.{LoadedPair, pair_chunk_refusal, pair_part}
-use Rattle.pair_reads.proofs.Finding.{Found, few_tasks, in_file_0, in_file_1, there, chunk_tests_pass, chunk_allowed}
+use Rattle.chunks.proofs.Testing.{first_refuses}
+use Rattle.pair_reads.specs.Found.{Found}
+use Rattle.pair_reads.proofs.Finding.{there, is_task, chunk_tested, chunk_used}
 use Rattle.pair_reads.proofs.part.Goals as goal
 
--- a place in one of the images
-abbrev placed : ℕ → ℕ → ℕ → PairPart
-placed file start length = record { refusal = 0; file = file; start = start; length = length }
-
--- the place that is answered where the tests pass
-part_is : {p : LoadedPair} {rank : ℕ} {second : Bool} {c : Container} {task : ℕ} {part : Part} (chunk : ℕ) → Found p rank second c task
-    → pair_chunk_refusal p rank chunk ≡ 0 → part ≡ chunk_place c task chunk
-    → placed (file_of_rank second) part.start part.length ≡ pair_part p rank chunk
+refused : (p : LoadedPair) (rank chunk : ℕ) (refusal : Refusal)
+    → number_of refusal ≡ pair_chunk_refusal p rank chunk
+    → pair_part_of (Err refusal) ≡ pair_part p rank chunk
 unfolding pair_part
-part_is chunk found passes e =
+refused p rank chunk refusal e = rw (← e) (sym (when_refused _ _ _ (some_number refusal)))
+
+accepted : {p : LoadedPair} {rank file : ℕ} {c : Container} {task : ℕ}
+    → Found p rank file c task
+    → (chunk : ℕ)
+    → 0 ≡ pair_chunk_refusal p rank chunk
+    → (place : Place)
+    → part_of (Ok place) ≡ chunk_place c task chunk
+    → pair_part_of (Ok (record { file = file; start = place.start; length = place.length })) ≡ pair_part p rank chunk
+unfolding pair_part
+accepted found chunk passes place e =
     let is = e ∙ there found (λ f t. chunk_place f t chunk) in
-    (λ i. placed (file_of_rank (found.which i)) (is i).start (is i).length) ∙ sym (when_accepted _ _ _ passes)
+    (λ i. record { refusal = 0; file = found.which i; start = (is i).start; length = (is i).length }) ∙ sym (when_accepted _ _ _ (sym passes))
 
--- zeros beside a number
-refused_part : (p : LoadedPair) (rank chunk r : ℕ)
-    → r ≡ pair_chunk_refusal p rank chunk
-    → 0 < r
-    → record { refusal = r; file = 0; start = 0; length = 0 } ≡ pair_part p rank chunk
-unfolding pair_part
-refused_part p rank chunk r e l =
-    let positive : 0 < pair_chunk_refusal p rank chunk = omega arith in
-    ap (λ (n : ℕ). record { refusal = n; file = 0; start = 0; length = 0 }) e ∙ sym (when_refused _ _ _ positive)
+pub returns-in_err-carrier-clause-value : goal.returns-in_err-carrier-clause-value
+unfolding pair_chunk_refusal
+returns-in_err-carrier-clause-value c =
+    let p = err_from_is_err_and c.from_residual.result c.from_residual.ensures.1 in
+    rw (p.1, p.2) (refused _ _ _ _ (first_refuses _ _ _ c.in_err-carrier.ensures.value))
 
-pub returns-then-refusal-ne0-clause-value : goal.returns-then-refusal-ne0-clause-value
-returns-then-refusal-ne0-clause-value c =
-    refused_part _ _ _ _ c.chunk_refusal-refusal.ensures (search rules)
+pub test_used-requires : goal.test_used-requires
+test_used-requires c = is_task c.in_ok-carrier.ensures.found
 
-pub task_of-task-requires : goal.task_of-task-requires
-task_of-task-requires c =
-    let passes = sym c.chunk_refusal-refusal.ensures ∙ c.if-refusal-ne0.false in
-    let (few, few') = few_tasks _ _ (chunk_tests_pass _ _ _ passes) in (search rules, search rules, few, few')
+pub returns-in_err-test_used-clause-value : goal.returns-in_err-test_used-clause-value
+returns-in_err-test_used-clause-value c =
+    let p = err_from_is_err_and c.from_residual-in_err-test_used.result c.from_residual-in_err-test_used.ensures.1 in
+    let held = c.in_ok-carrier.ensures in
+    rw (p.1, p.2) (refused _ _ _ _ (chunk_tested held.found c.args.chunk held.value c.in_err-test_used.ensures))
 
-pub part_of-part-requires-clause-readable : goal.part_of-part-requires-clause-readable
-part_of-part-requires-clause-readable c =
-    let passes = sym c.chunk_refusal-refusal.ensures ∙ c.if-refusal-ne0.false in
-    let second = in_file_1 _ _ (chunk_tests_pass _ _ _ passes) _ c.task_of-task.ensures (search rules) c.if-n-task.true in
-    let r = chunk_allowed second _ passes in
-    r.0
-
-pub part_of-part-requires-clause-le_chunk : goal.part_of-part-requires-clause-le_chunk
-part_of-part-requires-clause-le_chunk c =
-    let passes = sym c.chunk_refusal-refusal.ensures ∙ c.if-refusal-ne0.false in
-    let second = in_file_1 _ _ (chunk_tests_pass _ _ _ passes) _ c.task_of-task.ensures (search rules) c.if-n-task.true in
-    let r = chunk_allowed second _ passes in
-    r.1
-
-pub returns-then-n-task-clause-value : goal.returns-then-n-task-clause-value
-returns-then-n-task-clause-value c =
-    let passes = sym c.chunk_refusal-refusal.ensures ∙ c.if-refusal-ne0.false in
-    let second = in_file_1 _ _ (chunk_tests_pass _ _ _ passes) _ c.task_of-task.ensures (search rules) c.if-n-task.true in
-    part_is _ second passes c.part_of-part.ensures.value
-
-pub part_of-part-requires-2-clause-readable : goal.part_of-part-requires-2-clause-readable
-part_of-part-requires-2-clause-readable c =
-    let passes = sym c.chunk_refusal-refusal.ensures ∙ c.if-refusal-ne0.false in
-    let first = in_file_0 _ _ (chunk_tests_pass _ _ _ passes) _ c.task_of-task.ensures (search rules) c.if-n-task.false in
-    let r = chunk_allowed first _ passes in
-    r.0
-
-pub part_of-part-requires-2-clause-le_chunk : goal.part_of-part-requires-2-clause-le_chunk
-part_of-part-requires-2-clause-le_chunk c =
-    let passes = sym c.chunk_refusal-refusal.ensures ∙ c.if-refusal-ne0.false in
-    let first = in_file_0 _ _ (chunk_tests_pass _ _ _ passes) _ c.task_of-task.ensures (search rules) c.if-n-task.false in
-    let r = chunk_allowed first _ passes in
-    r.1
+pub place_of-place-requires-clause-le_chunk : goal.place_of-place-requires-clause-le_chunk
+place_of-place-requires-clause-le_chunk c =
+    let held = c.in_ok-carrier.ensures in
+    chunk_used held.found c.args.chunk held.value c.in_ok-test_used.ensures refl
 
 pub returns-clause-value : goal.returns-clause-value
 returns-clause-value c =
-    let passes = sym c.chunk_refusal-refusal.ensures ∙ c.if-refusal-ne0.false in
-    let first = in_file_0 _ _ (chunk_tests_pass _ _ _ passes) _ c.task_of-task.ensures (search rules) c.if-n-task.false in
-    part_is _ first passes c.part_of-part-2.ensures.value
+    let held = c.in_ok-carrier.ensures in
+    accepted held.found c.args.chunk (chunk_tested held.found c.args.chunk held.value c.in_ok-test_used.ensures) _ c.place_of-place.ensures.value

@@ -1,32 +1,37 @@
--- The answer by cases of what `read_refusal` says.
+-- The total in the file that has the rank.
 use mathlib.Core.Path.{◌≡◌, sym, ap, ◌∙◌}
-use Prim.Native.Nat.{ℕ, ◌<◌}
-use native.Mathlib.Omega.{arith}
-use borrow.Author.Rules.{rules}
-use Rattle.format.specs.Refusals.{first_failing}
+use Prim.Native.Nat.{ℕ}
+use Rattle.std.specs.Prelude.{Err}
+use Rattle.std.proofs.lemmas.Result.{err_from_is_err_and}
+use Rattle.format.specs.declared.refusal.Refusal.{Refusal}
+use Rattle.format.specs.Refusals.{number_of, first_failing}
+use Rattle.format.specs.Answers.{byte_count}
 use Rattle.format.specs.Reads.{total_of}
-use Rattle.format.proofs.Refusals.{when_accepted, when_refused}
+use Rattle.format.proofs.Refusals.{some_number, when_accepted, when_refused}
 use Rattle.format.proofs.Stream.{counted}
 use Rattle.pairs.specs.Reads.{LoadedPair, file_there, task_there, pair_read_tests, pair_total}
+use Rattle.pair_reads.proofs.Finding.{there}
 use Rattle.pair_reads.proofs.total.Goals as goal
 
-refused : (p : LoadedPair) (rank r : ℕ) → r ≡ first_failing (pair_read_tests p rank) → 0 < r → counted r 0 ≡ pair_total p rank
+refused : (p : LoadedPair) (rank : ℕ) (refusal : Refusal)
+    → number_of refusal ≡ first_failing (pair_read_tests p rank)
+    → byte_count (Err refusal) ≡ pair_total p rank
 unfolding pair_total
-refused p rank r e l =
-    let positive : 0 < first_failing (pair_read_tests p rank) = omega arith in
-    ap (λ (n : ℕ). counted n 0) e ∙ sym (when_refused _ _ _ positive)
+refused p rank refusal e = rw (← e) (sym (when_refused _ _ _ (some_number refusal)))
 
-accepted : (p : LoadedPair) (rank b : ℕ)
-    → first_failing (pair_read_tests p rank) ≡ 0
-    → b ≡ total_of (file_there p rank) (task_there p rank)
-    → counted 0 b ≡ pair_total p rank
+accepted : (p : LoadedPair) (rank bytes : ℕ)
+    → 0 ≡ first_failing (pair_read_tests p rank)
+    → bytes ≡ total_of (file_there p rank) (task_there p rank)
+    → counted 0 bytes ≡ pair_total p rank
 unfolding pair_total
-accepted p rank b e t = ap (counted 0) t ∙ sym (when_accepted _ _ _ e)
+accepted p rank bytes e t = ap (counted 0) t ∙ sym (when_accepted _ _ _ (sym e))
 
-pub returns-then-refusal-ne0 : goal.returns-then-refusal-ne0
-returns-then-refusal-ne0 c = refused _ _ _ c.read_refusal-refusal.ensures (search rules)
+pub returns-in_err-carrier : goal.returns-in_err-carrier
+returns-in_err-carrier c =
+    let p = err_from_is_err_and c.from_residual.result c.from_residual.ensures.1 in
+    rw (p.1, p.2) (refused _ _ _ c.in_err-carrier.ensures.value)
 
 pub returns : goal.returns
 returns c =
-    let passes = sym c.read_refusal-refusal.ensures ∙ c.if-refusal-ne0.false in
-    accepted _ _ _ passes c.total_of-bytes.ensures
+    let found = c.in_ok-carrier.ensures.found in
+    accepted _ _ _ c.in_ok-carrier.ensures.value (c.total_of.ensures ∙ there found total_of)
