@@ -1,7 +1,5 @@
-// Numbers of 4 and 8 bytes in either byte order, unsigned and signed: what one is (`numbers`), one read at an offset (`read`), and two's complement
-// (`sign`).
+// Numbers of 4 and 8 bytes in either byte order, unsigned and signed: what one is (`numbers`), and one read at an offset (`read`).
 #![tactic(auto)]
 
 pub mod numbers;
 pub mod read;
-pub mod sign;

@@ -13,7 +13,6 @@ ghost use Rattle.format.specs.Judge.{number_fault};
 ghost use Rattle.format.specs.Meta2.{unused};
 
 use endian::read::Read;
-use endian::sign;
 use format::fault::{Broken, Fault, Field};
 use format::refusal::Refusal;
 
@@ -26,7 +25,7 @@ pub fn number4(refusal: Refusal, field: Field, read: Read<u32>, least: u64, most
         refusal,
         fault: Fault {
             place: read.at as u64,
-            says: sign::signed32(read.value) as i64,
+            says: i64::from(read.value.cast_signed()),
             least: least as i64,
             most: most as i64,
             field: field.kind(),
@@ -53,7 +52,7 @@ pub fn number8(
         refusal,
         fault: Fault {
             place,
-            says: sign::signed64(value),
+            says: value.cast_signed(),
             least: least as i64,
             most: most as i64,
             field: field.kind(),

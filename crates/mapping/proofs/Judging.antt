@@ -1,15 +1,12 @@
--- A signed number widened, and the tests of an entry and of a whole mapping by numbers that are read without a sign.
+-- The tests of an entry and of a whole mapping by numbers that are read without a sign.
 use mathlib.Core.Path.{◌≡◌, refl, ap, ◌∙◌}
 use mathlib.Core.Bool.{Bool, true, false, not}
 use mathlib.Core.List.{List, [], ◌∷◌}
 use Prim.Native.Nat.{ℕ, suc, ◌+◌, ◌-◌, ◌*◌, ◌≤◌, ◌<◌}
 use native.Mathlib.Omega.{arith}
 use lib.Dec.{ltb, leb, eqb}
-use lib.IntN.{ℤ, pos}
+use lib.IntN.{pos}
 use lib.ListN.{length}
-use mir.Facts.{sfits_widen, to_z-of_z}
-use mir.Syntax.{w32, w64}
-use mir.Val.{SFits, to_z, of_z}
 use borrow.Author.Tests.{le-leb, lt-leb, lt-ltb, le-ltb, ltb-true, ltb-false, eq-eqb, ne_eqb, not-false}
 use Rattle.lists.specs.Below.{join_below}
 use Rattle.endian.specs.Number.{number_at}
@@ -26,9 +23,6 @@ use Rattle.pairs.specs.Mapping.{mapping_length, entry_tests, mapping_tests}
 use Rattle.mapping.specs.Entries.{named_tests}
 
 -- ---- a signed number of 4 bytes keeps its value in 8
-
-pub wide_same : {z : ℤ} → SFits w32 z → to_z w64 (of_z w64 (to_z w32 (of_z w32 z))) ≡ z
-wide_same f = ap (λ (z : ℤ). to_z w64 (of_z w64 z)) (to_z-of_z f) ∙ to_z-of_z {w = w64} (sfits_widen tt f)
 
 -- ---- an entry, whose two numbers are read without a sign
 

@@ -16,7 +16,7 @@ ghost use Rattle.pairs.specs.Ranks.{none_lacking};
 ghost use Rattle.pairs.specs.Mapping.{mapping_length, mapping, entry_tests, mapping_tests};
 ghost use Rattle.mapping.specs.Entries.{task_in, entry_bytes, AllHeld, named_tests, Listed};
 
-use endian::{read, sign};
+use endian::read;
 use format::fault::{Broken, Fault, Field};
 use format::refusal::Refusal;
 use pairs::PAIR_TASKS;
@@ -113,7 +113,7 @@ fn judge_task(ranks: &[u64], task: u32, rank: u32, at: u64) -> Result<(), Broken
     ensures { judged result ≡ verdict (named_tests (length ranks.now) (entry ranks.now) task rank at) }
 {
     let Some(&carried) = ranks.get(task as usize) else {
-        let says = sign::signed32(task) as i64;
+        let says = i64::from(task.cast_signed());
         let last = ranks.len() as u64 - 1;
         return Err(bad_entry(Field::EntryTask, rank, at, says, 0, last));
     };
@@ -144,7 +144,7 @@ fn judge_entry(
         0 => first,
         1 => second,
         _ => {
-            let says = sign::signed32(file) as i64;
+            let says = i64::from(file.cast_signed());
             return Err(bad_entry(Field::EntryFile, rank as u32, place, says, 0, 1));
         }
     };

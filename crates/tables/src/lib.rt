@@ -10,7 +10,6 @@ ghost use Rattle.format.specs.Meta2.{counts_rule, value_rule, values_rule};
 ghost use Rattle.format.specs.Record.{cell};
 ghost use Rattle.tables.specs.Spans.{rule_at, HoldsListed};
 
-use endian::sign;
 use format::limit;
 use layout::Layout;
 use rules::limits;
@@ -64,7 +63,7 @@ fn value_bad(bad: u64, count: u64, k: u64, holds: u64, value: i64) -> u64
 {
     let unused = unused_mask(count, k);
     let most = holds & !unused;
-    over(bad, most, sign::bits64(value) ^ unused)
+    over(bad, most, value.cast_unsigned() ^ unused)
 }
 
 // Whether the value of chunk k + 1 keeps its rule.

@@ -3,25 +3,26 @@ use mathlib.Core.Path.{◌≡◌, ap, sym, ◌∙◌}
 use mathlib.Core.Bool.{not}
 use Prim.Native.Nat.{suc, ◌-◌, ◌≤◌}
 use native.Mathlib.Omega.{arith}
-use borrow.Author.Rules.{sfits_of}
+use borrow.Author.Rules.{rules, sfits_of}
 use borrow.Author.Tests.{eq-eqb, ne_eqb}
 use lib.IntN.{pos}
 use lib.ListN.{length}
-use mir.Facts.{to_z_pos}
+use mir.Facts.{to_z-of_z, to_z_pos}
 use mir.Syntax.{w64}
+use Rattle.endian.specs.Signed.{signed}
 use Rattle.format.specs.Kinds
 use Rattle.format.specs.Limits.{max_rank}
 use Rattle.format.specs.Record.{entry}
 use Rattle.format.specs.Refusals.{fault_of}
 use Rattle.format.proofs.Judged.{verdict_of}
 use Rattle.format.proofs.Verdicts.{fails_first, passes_first, passes_last}
-use Rattle.mapping.proofs.Judging.{wide_same}
 use Rattle.mapping.proofs.judge_task.Goals as goal
 
 pub returns-in_default : goal.returns-in_default
 returns-in_default c =
     let a = c.args in
-    let says = wide_same (sfits_of c.signed32-says.type_inv) ∙ c.signed32-says.ensures in
+    let read : c.from-says.result ≡ signed 31 a.task = search rules in
+    let says = to_z-of_z {w = w64} (sfits_of c.from-says.type_inv) ∙ read in
     (λ i. verdict_of (c.bad_entry.ensures i))
     ∙ (λ i. record { refusal = 25; fault = fault_of Kinds.entry_task (suc a.rank) 0 a.at (says i) (pos 0) (pos (length a.ranks.now - 1)) })
     ∙ sym (fails_first _ _ (ap not (sym c.in_default.ensures.lookup.0)))
