@@ -51,8 +51,9 @@ fn container_line(image: &[u8]) -> ArrayString<LINE>
     push_spaced(&mut text, u64::from(l.head.n));
     push_spaced(&mut text, u64::from(l.maxchunks));
     for task in 1..=u64::from(l.head.n) {
-        let total = container::total(l, &lists, image, &table, task);
-        push_spaced(&mut text, total.bytes);
+        // No total of a container that loads is refused.
+        let total = container::total(l, &lists, image, &table, task).unwrap_or(0);
+        push_spaced(&mut text, total);
     }
     text
 }

@@ -4,10 +4,10 @@
 
 use format::head::LISTS;
 use format::loaded::Loaded;
+use format::refusal::Refusal;
 use std::fs::File;
-use std::io::Result;
 use std::process::ExitCode;
-use std::{env, fmt};
+use std::{env, fmt, io};
 use streams::input::{INPUT, LONGEST};
 use streams::{input, output};
 
@@ -65,16 +65,8 @@ struct Container<'a> {
 }
 
 impl Container<'_> {
-    // The part of a chunk, unless it is refused.
-    fn chunk(&self, task: u64, chunk: u64) -> Option<&[u8]> {
-        let Container {
-            loaded,
-            lists,
-            image,
-            table,
-        } = *self;
-        let refusal = container::chunk_refusal(loaded, lists, image, table, task, chunk);
-        (refusal == 0).then(|| container::chunk(loaded, lists, image, table, task, chunk))
+    fn chunk(&self, task: u64, chunk: u64) -> Result<&[u8], Refusal> {
+        container::chunk(self.loaded, self.lists, self.image, self.table, task, chunk)
     }
 
     // What a read of a task's stream from p on copies into a piece.
@@ -88,13 +80,12 @@ impl Container<'_> {
             p,
             piece,
         );
-        let k = copied.bytes.min(PIECE as u64) as usize;
-        &piece[..k]
+        &piece[..copied.unwrap_or(0)]
     }
 
     // The parts of a task's chunks, up to the first that is refused.
     fn add_parts(&self, task: u64, sum: &mut Sum) {
-        for part in (1..=MOST_CHUNKS).map_while(|chunk| self.chunk(task, chunk)) {
+        for part in (1..=MOST_CHUNKS).map_while(|chunk| self.chunk(task, chunk).ok()) {
             sum.add(part);
         }
     }
@@ -151,7 +142,7 @@ fn print_container(rt: &HostRuntime, image: &[u8]) {
 }
 
 // Prints what is said of a file, or says why it cannot be opened or read.
-fn run(rt: &HostRuntime, name: &str) -> Result<()> {
+fn run(rt: &HostRuntime, name: &str) -> io::Result<()> {
     let mut buf = [0u8; INPUT];
     let mut file = File::open(rt, name)?;
     let count = input::read_input(&mut file, &mut buf)?;

@@ -1,10 +1,14 @@
 -- The refusal, and after an accepted load n, maxchunks and the totals behind it.
-use Rattle.std.proofs.Common.{◌≡◌, ◌∷◌, ◌++◌, ◌+◌, ◌-◌, ◌≤◌, List, ℕ, length, sym, ap, ap₂, ◌∙◌, arith, append_assoc, append-nil}
+use Rattle.std.proofs.Common.{refl, ◌≡◌, ◌∷◌, ◌++◌, ◌+◌, ◌-◌, ◌≤◌, List, ℕ, length, sym, ap, ap₂, ◌∙◌, arith, append_assoc, append-nil}
+use Rattle.std.specs.Prelude.{Result, Ok, Err}
+use Rattle.std.specs.Result.{result_unwrap_or}
 use lib.IntN.{pos}
 use lib.ListN.{replicate}
 use Rattle.lists.specs.Below.{list_below, join_below}
 use Rattle.format.specs.declared.head.File.TheVariants.{Single}
 use Rattle.format.specs.declared.loaded.ByteCount.{ByteCount}
+use Rattle.format.specs.declared.refusal.Refusal.{Refusal}
+use Rattle.format.specs.Answers.{byte_count}
 use Rattle.format.specs.Limits.{max_tasks}
 use Rattle.format.specs.Reads.{Container, container_of, total_answer}
 use Rattle.format.specs.Line.{cells, decimal, space, spaced, totals_of, container_line}
@@ -40,14 +44,18 @@ whole s k e all =
     ∙ ap₂ (λ xs (i : ℕ). xs ++ spaced (list_below i (totals (told s)))) third all
     ∙ accepted_line s.args.image.now j.result j.new.table j.ensures.value j.ensures.table_after s.if-refusal-ne0.false
 
+bytes_of : (answer : Result ℕ Refusal) → result_unwrap_or answer 0 ≡ (byte_count answer).bytes
+bytes_of (Ok n) = refl
+bytes_of (Err refusal) = refl
+
 -- one total more
-one_more : (s : After-from-task-end) (task : ℕ) {text more : List ℕ} (total : ByteCount) → 1 ≤ task
+one_more : (s : After-from-task-end) (task : ℕ) {text more : List ℕ} (answer : Result ℕ Refusal) {total : ℕ} → 1 ≤ task
     → text ≡ s.push_spaced-2.new.text.bytes ++ spaced (list_below (task - 1) (totals (told s)))
-    → total ≡ total_answer (told s) task → more ≡ text ++ (space ∷ decimal total.bytes)
+    → byte_count answer ≡ total_answer (told s) task → total ≡ result_unwrap_or answer 0 → more ≡ text ++ (space ∷ decimal total)
     → more ≡ s.push_spaced-2.new.text.bytes ++ spaced (list_below task (totals (told s)))
-one_more s task total some e is m =
+one_more s task answer some e is t m =
     m
-    ∙ ap₂ (λ xs (t : ByteCount). xs ++ (space ∷ decimal t.bytes)) e is
+    ∙ ap₂ (λ xs n. xs ++ (space ∷ decimal n)) e (t ∙ bytes_of answer ∙ ap (λ (b : ByteCount). b.bytes) is)
     ∙ append_assoc s.push_spaced-2.new.text.bytes _ _
     ∙ ap (λ xs. s.push_spaced-2.new.text.bytes ++ xs) (totals_more (told s) task some)
 
@@ -64,7 +72,7 @@ pub loop-task-preserved : goal.loop-task-preserved
 loop-task-preserved c =
     let e : c.loop-task.task + 1 - 1 ≡ c.loop-task.task = omega arith in
     let s : After-from-task-end = (goal.at.loop-task-preserved c).After-from-task-end in
-    record { in_range = omega arith; bytes = rw e (one_more s c.loop-task.task _ (omega arith) c.loop-task.invariant.bytes c.total-total.ensures c.push_spaced-in-loop-task.ensures.bytes); upper_bound = omega arith }
+    record { in_range = omega arith; bytes = rw e (one_more s c.loop-task.task _ (omega arith) c.loop-task.invariant.bytes c.total.ensures c.unwrap_or-total.ensures c.push_spaced-in-loop-task.ensures.bytes); upper_bound = omega arith }
 
 pub returns-else-refusal-ne0-clause-bytes : goal.returns-else-refusal-ne0-clause-bytes
 returns-else-refusal-ne0-clause-bytes c =
@@ -79,7 +87,7 @@ returns-else-refusal-ne0-clause-upper_bound c =
 pub returns-else-refusal-ne0-2-clause-bytes : goal.returns-else-refusal-ne0-2-clause-bytes
 returns-else-refusal-ne0-2-clause-bytes c =
     let s : After-from-task-end = (goal.at.returns-else-refusal-ne0-2-clause-bytes c).After-from-task-end in
-    let all = one_more s c.loop-task.task _ (omega arith) c.loop-task.invariant.bytes c.total-total.ensures c.push_spaced-in-loop-task.ensures.bytes in
+    let all = one_more s c.loop-task.task _ (omega arith) c.loop-task.invariant.bytes c.total.ensures c.unwrap_or-total.ensures c.push_spaced-in-loop-task.ensures.bytes in
     whole s c.loop-task.task all (omega arith)
 
 pub returns-else-refusal-ne0-2-clause-upper_bound :
