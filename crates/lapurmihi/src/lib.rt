@@ -23,6 +23,7 @@ ghost use Rattle.format.specs.Reads.{container_of, part_answer, total_answer, re
 
 use format::head::LISTS;
 use format::loaded::{ByteCount, LoadAnswer, Loaded, Part};
+use format::refusal;
 use format::session::{Closed, Needed, Opened, Plan, Session};
 
 // The library's version: 10,000 times the first number, 100 times the second, and the third.
@@ -77,7 +78,7 @@ pub extern "C" fn lapur_write_lent(
     ensures value { result ≡ write_refusal (state_of Single s lists.old image.old table.old) (request_of task bytes.now) }
     ensures table_after { state_of Single s lists.new image.new table.new ≡ after_write (state_of Single s lists.old image.old table.old) (request_of task bytes.now) }
 {
-    container::write(s, lists, image, table, task, bytes)
+    refusal::answered(container::write(s, lists, image, table, task, bytes))
 }
 
 #[unsafe(no_mangle)]
@@ -90,7 +91,7 @@ pub extern "C" fn lapur_close_lent(
     ensures value { result ≡ close_answer (state_of Single s lists.now image.old table.now) }
     ensures image_after { image.new ≡ close_image (state_of Single s lists.now image.old table.now) }
 {
-    container::close(s, lists, image, table)
+    Closed::of(s, container::close(s, lists, image, table))
 }
 
 #[unsafe(no_mangle)]
