@@ -8,12 +8,12 @@ ghost use Rattle.lists.specs.Stores.{found, Spends};
 ghost use Rattle.format.specs.Limits.{blocksize_rule, max_tasks, max_blocks};
 ghost use Rattle.format.specs.Layout.{meta1_end, data_start, meta2_length};
 ghost use Rattle.format.specs.declared.head.Head.{Head};
-ghost use Rattle.format.specs.Record.{entry, cell, all_lists, rank_of, size_of};
+ghost use Rattle.format.specs.Record.{entry, cell, rank_of, size_of};
 ghost use Rattle.format.specs.Meta1.{prefix_length, fixed_length, last_at, padded, last_fields, opening_bytes, opening_stores};
 ghost use Rattle.format.specs.Meta2.{meta2};
 ghost use Rattle.emit.specs.Parts.{versions, shape, first_fields};
 
-use format::head::Head;
+use format::head::{Head, LISTS};
 use format::{field, head};
 use stores::{memory, numbers};
 
@@ -116,8 +116,8 @@ fn put_fixed(image: &mut [u8], h: Head, big: bool, prefix: &[u8], budget: u64) -
 }
 
 // META1 but for its first byte, its last two fields 0, and zeros up to D.
-fn put_rest(image: &mut [u8], h: Head, lists: &[u64], prefix: &[u8], budget: u64) -> u64
-    requires blocksize_value { (blocksize_rule (pos h.blocksize) ≡ true) × (h.n ≤ max_tasks) × (length lists.now ≡ all_lists) }
+fn put_rest(image: &mut [u8], h: Head, lists: &[u64; LISTS], prefix: &[u8], budget: u64) -> u64
+    requires blocksize_value { (blocksize_rule (pos h.blocksize) ≡ true) × (h.n ≤ max_tasks) }
     requires prefix_len_bound { length prefix.now ≤ prefix_length }
     requires n_in_bounds { data_start h.blocksize h.n ≤ length image.old }
     ensures { Spends budget image.old 1 (drop 1 (opening_bytes h (rank_of lists.now) (size_of lists.now) prefix.now)) image.new result }
@@ -135,8 +135,8 @@ fn put_rest(image: &mut [u8], h: Head, lists: &[u64], prefix: &[u8], budget: u64
 }
 
 // What opening stores: 0 into the magic's first byte, then all up to D, and the first byte itself last.
-pub fn meta1(image: &mut [u8], h: Head, lists: &[u64], prefix: &[u8], budget: u64)
-    requires blocksize_value { (blocksize_rule (pos h.blocksize) ≡ true) × (h.n ≤ max_tasks) × (length lists.now ≡ all_lists) }
+pub fn meta1(image: &mut [u8], h: Head, lists: &[u64; LISTS], prefix: &[u8], budget: u64)
+    requires blocksize_value { (blocksize_rule (pos h.blocksize) ≡ true) × (h.n ≤ max_tasks) }
     requires prefix_len_bound { length prefix.now ≤ prefix_length }
     requires n_in_bounds { data_start h.blocksize h.n ≤ length image.old }
     ensures { image.new ≡ found budget image.old (opening_stores h (rank_of lists.now) (size_of lists.now) prefix.now) }

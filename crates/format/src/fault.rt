@@ -39,51 +39,9 @@ impl Field {
     }
 }
 
-pub const MARK: u32 = 1;
-
-pub const ORDER: u32 = 2;
-
-// The image's end, which comes too early.
-pub const IMAGE: u32 = 3;
-
-pub const FORMAT: u32 = 4;
-
-pub const BLOCKSIZE: u32 = 5;
-
-pub const TASKS: u32 = 6;
-
-pub const FILES: u32 = 7;
-
-pub const FILE_NUMBER: u32 = 8;
-
-pub const RANK: u32 = 9;
-
-pub const SIZE: u32 = 10;
-
-pub const MAXCHUNKS: u32 = 11;
-
-pub const START: u32 = 12;
-
-// The table that is lent, which has too few cells.
-pub const TABLE: u32 = 13;
-
-pub const COUNT: u32 = 14;
-
-pub const VALUE: u32 = 15;
-
-// Of the mapping of a pair: mapping_size, and of an entry the file that it names, the task, and the rank that this task carries.
-pub const MAPPING_SIZE: u32 = 16;
-
-pub const ENTRY_FILE: u32 = 17;
-
-pub const ENTRY_TASK: u32 = 18;
-
-pub const ENTRY_RANK: u32 = 19;
-
-// `field` is one of the kinds above; `task` and `chunk` are counted from 1, and 0 where the field is of none; an entry of a
-// mapping has its rank and 1 as its task. The mark and the order number say
-// nothing, and so all three numbers are 0 there; an image's end and a table say their length, and both bounds are what is needed. Where nothing is
-// broken, all are 0.
+// `field` is the number of a kind, as C is handed it, and 0 where nothing is broken; then all else is 0 too. `task` and `chunk` are counted from 1,
+// and 0 where the field is of none; an entry of a mapping has its rank and 1 as its task. The mark and the order number say nothing, and so the
+// place of a mark and what all three numbers say is 0; an image's end and a table say their length, and both bounds are what is needed.
 #[repr(C)]
 #[derive(Clone, Copy, Default)]
 pub struct Fault {

@@ -1,7 +1,7 @@
 // Loading: a container judged whole, its record handed back and its values put into the table.
 #![tactic(auto)]
 
-ghost use Rattle.std.specs.Prelude.{◌≡◌, IfOk, OnOk};
+ghost use Rattle.std.specs.Prelude.{◌≡◌, IfOk, OnOk, OnErr};
 ghost use Rattle.lists.specs.Splice.{splice};
 ghost use Rattle.format.specs.declared.head.File.TheVariants.{Single};
 ghost use Rattle.format.specs.Meta2.{meta2_part};
@@ -17,21 +17,20 @@ use format::loaded::{LoadAnswer, Loaded};
 use format::refusal::Refusal;
 use layout::Layout;
 
-// An image judged as the file that the call means, tests 1 to 12, 18 and 13 in the order of document 01, for a table of so many cells, which is not
-// touched. Where they pass, the record is handed back, and the lent lists are its lists.
-pub fn judge(
+// The same as `judge`, into lists of zeros; a refusal leaves in them what was read.
+fn judge_into(
     file: File,
     image: &[u8],
     cells: usize,
     lists: &mut [u64; LISTS],
 ) -> Result<Loaded, Broken>
+    requires { lists.old ≡ no_lists }
     ensures verdict { judged result ≡ verdict (load_tests file image.now cells) }
     ensures loaded { IfOk result (λ loaded. loaded ≡ loaded_in image.now) }
     ensures lists_after { OnOk result (lists.new ≡ lists_in image.now) }
 {
     let len = image.len() as u64;
     let head = front::judge_fixed(file, image, len)?;
-    lists.fill(0);
     let last = meta1::judge_lists(image, len, head, lists)?;
     let maxchunks = last.maxchunks;
     let (cells, needed) = (cells as u64, head.n as u64 * maxchunks as u64);
@@ -46,6 +45,27 @@ pub fn judge(
         maxchunks,
         closed: 0,
     })
+}
+
+// An image judged as the file that the call means, tests 1 to 12, 18 and 13 in the order of document 01, for a table of so many cells, which is not
+// touched. Where they pass, the record is handed back, and the lent lists are its lists; refused, they are zeros.
+pub fn judge(
+    file: File,
+    image: &[u8],
+    cells: usize,
+    lists: &mut [u64; LISTS],
+) -> Result<Loaded, Broken>
+    ensures verdict { judged result ≡ verdict (load_tests file image.now cells) }
+    ensures loaded { IfOk result (λ loaded. loaded ≡ loaded_in image.now) }
+    ensures accepted { OnOk result (lists.new ≡ lists_in image.now) }
+    ensures refused { OnErr result (lists.new ≡ no_lists) }
+{
+    lists.fill(0);
+    let answer = judge_into(file, image, cells, lists);
+    if answer.is_err() {
+        lists.fill(0);
+    }
+    answer
 }
 
 // The values of a container that passed its tests, into the table's start.
@@ -69,7 +89,7 @@ pub fn load(image: &[u8], table: &mut [i64]) -> LoadAnswer
     ensures table_after { table.new ≡ load_table Single image.now table.old }
 {
     let mut lists = [0; LISTS];
-    match judge(File::Single, image, table.len(), &mut lists) {
+    match judge_into(File::Single, image, table.len(), &mut lists) {
         Ok(loaded) => {
             fill(image, loaded, &lists, table);
             LoadAnswer {

@@ -19,23 +19,23 @@ put_fixed-left-requires c =
     (search rules, omega (arith, c.requires, opening_fits h.blocksize h.n c.requires.blocksize_value.0))
 
 pub slice_bounds-ranks-end : goal.slice_bounds-ranks-end
-slice_bounds-ranks-end c = sym (length_ranks c.args.lists.now c.requires.blocksize_value.2)
+slice_bounds-ranks-end c = sym (length_ranks c.args.lists.now (search rules))
 
 pub slice_bounds-put_list-end : goal.slice_bounds-put_list-end
 slice_bounds-put_list-end c =
     let lists = c.args.lists.now in
-    sym (length-take-le c.args.h.n (ranks_of lists) (omega (arith, c.requires, length_ranks lists c.requires.blocksize_value.2)))
+    sym (length-take-le c.args.h.n (ranks_of lists) (omega (arith, c.requires, length_ranks lists (search rules))))
 
 pub put_list-left-requires : goal.put_list-left-requires
 put_list-left-requires c =
     let h = c.args.h in
-    let ranks = length_ranks c.args.lists.now c.requires.blocksize_value.2 in
+    let ranks = length_ranks c.args.lists.now (search rules) in
     simp length-take (omega (arith, c.requires, ranks, opening_fits h.blocksize h.n c.requires.blocksize_value.0))
 
 pub put_list-left-requires-2 : goal.put_list-left-requires-2
 put_list-left-requires-2 c =
     let h = c.args.h in
-    let sizes = length_sizes c.args.lists.now c.requires.blocksize_value.2 in
+    let sizes = length_sizes c.args.lists.now (search rules) in
     simp length-take (omega (arith, c.requires, sizes, opening_fits h.blocksize h.n c.requires.blocksize_value.0, c.sizes_at.ensures))
 
 pub put_zeros-requires : goal.put_zeros-requires
@@ -52,9 +52,8 @@ returns c =
     let lists = a.lists.now in
     let last = c.last_at-last.ensures in
     let bytes = digits (is_big a.h) 8 in
-    let whole = c.requires.blocksize_value.2 in
-    let ranks = listed bytes (ranks_of lists) a.h.n 0 (omega (arith, c.requires, length_ranks lists whole)) in
-    let sizes = listed bytes (sizes_of lists) a.h.n 0 (omega (arith, c.requires, length_sizes lists whole)) in
+    let ranks = listed bytes (ranks_of lists) a.h.n 0 (omega (arith, c.requires, length_ranks lists (search rules))) in
+    let sizes = listed bytes (sizes_of lists) a.h.n 0 (omega (arith, c.requires, length_sizes lists (search rules))) in
     rest_stored a.h (rank_of lists) (size_of lists) a.prefix.now a.budget a.image.now c.requires.prefix_len_bound c.requires.blocksize_value.0
     c.requires.n_in_bounds
     c.data_start-end.ensures

@@ -14,7 +14,7 @@ fill-requires c =
 pub returns-in-Ok-clause-value : goal.returns-in-Ok-clause-value
 unfolding load_answer
 returns-in-Ok-clause-value c =
-    (λ i. record { loaded = c.in-Ok.loaded; lists = c.judge.new.lists; refusal = 0; fault = fault_zeros c.default.result c.default.ensures i })
+    (λ i. record { loaded = c.in-Ok.loaded; lists = c.judge_into.new.lists; refusal = 0; fault = fault_zeros c.default.result c.default.ensures i })
     ∙ accepted_answer _ _ _ c.in-Ok.ensures.verdict c.in-Ok.ensures.loaded c.in-Ok.ensures.lists_after
 
 pub returns-in-Ok-clause-table_after : goal.returns-in-Ok-clause-table_after

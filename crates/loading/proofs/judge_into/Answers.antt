@@ -10,8 +10,8 @@ use Rattle.format.proofs.Judged.{verdict_of, handed_on}
 use Rattle.front.specs.Judging.{HeadRead}
 use Rattle.front.proofs.Answers.{head_read}
 use Rattle.loading.proofs.LoadAnswers.{Found, found, at_fixed, at_rest, at_table, sound, few, fits, there, at_meta2, loaded_is, lists_are_in}
-use Rattle.loading.proofs.judge.Goals as goal
-use Rattle.loading.proofs.judge.Goals.{In_ok-head, In_ok-last}
+use Rattle.loading.proofs.judge_into.Goals as goal
+use Rattle.loading.proofs.judge_into.Goals.{In_ok-head, In_ok-last}
 
 -- the fixed fields passed
 read : (c : In_ok-head) → HeadRead c.args.image.now (length c.args.image.now) c.in_ok-head.head
@@ -28,7 +28,7 @@ returns-in_err-head-clause-verdict c =
     handed_on _ _ c.from_residual.ensures.1 ∙ at_fixed c.args.file c.args.image.now c.args.cells _ c.in_err-head.ensures.verdict
 
 pub judge_lists-requires : goal.judge_lists-requires
-judge_lists-requires c = (read (goal.at.judge_lists-requires c).In_ok-head, search rules)
+judge_lists-requires c = (read (goal.at.judge_lists-requires c).In_ok-head, c.requires)
 
 pub returns-in_err-last-clause-verdict : goal.returns-in_err-last-clause-verdict
 returns-in_err-last-clause-verdict c =
