@@ -20,92 +20,84 @@ use Rattle.format.specs.Limits.{max_tasks, max_size, max_blocks, Sound}
 use Rattle.format.specs.Layout.{meta2_length, meta2_end}
 use Rattle.format.specs.declared.head.Head.{Head}
 use Rattle.format.specs.declared.head.File.{File}
-use Rattle.front.specs.declared.Fixed.{Fixed}
 use Rattle.meta1.specs.declared.Last.{Last}
-use Rattle.format.specs.Refusals.{Verdict}
+use Rattle.format.specs.declared.fault.Broken.{Broken}
+use Rattle.format.specs.declared.loaded.Loaded.{Loaded}
 use Rattle.format.specs.Kinds
-use Rattle.format.specs.Refusals.{Test, test_at, fault_of, no_fault, first_failing, verdict}
+use Rattle.format.specs.declared.fault.Fault.{Fault}
+use Rattle.format.specs.Refusals.{Test, Verdict, test_at, fault_of, no_fault, first_failing, verdict, passed, number_of}
 use Rattle.format.specs.Meta2.{meta2_part, value_field, value_index, unused, value_rule, least_count, counts_rule}
-use Rattle.format.specs.Record.{sizes_of, size_of, lists_of, filled, no_lists, is_big, meta2_at, end_at, with_counts}
+use Rattle.format.specs.Record.{head_of, no_head, sizes_of, size_of, lists_of, filled, no_lists, is_big, meta2_at, end_at, with_counts}
 use Rattle.format.specs.Judge.{number_fault, tasks_in, maxchunks_in, head_in, rank_in, size_in, meta2_in, fixed_tests, rank_tests, requested_tests, rest_tests, meta1_tests, count_in, values_in, count_tests, greatest_test, value_test, value_tests, counts_tests, meta2_tests}
-use Rattle.front.specs.Judging.{fixed_gives, HeadRead}
-use Rattle.meta1.specs.Judging.{rest_gives, lists_read}
+use Rattle.front.specs.Judging.{HeadRead}
+use Rattle.meta1.specs.Judging.{last_in, lists_read}
 use Rattle.meta2.specs.Judging.{Meta2There}
 use Rattle.format.proofs.Refusals.{both_pass, when_accepted, when_refused, number_is}
-use Rattle.format.proofs.Verdicts.{fails_first, passes_first, verdict_passes, verdict_fails, verdict_none}
+use Rattle.format.proofs.Verdicts.{fails_first, passes_first, verdict_passes}
 use Rattle.format.proofs.Rules.{sizes_hold}
 use Rattle.format.proofs.Unsigned.{all_unsigned, natural_unsigned}
 use Rattle.format.proofs.Filled.{filled_cong}
 use Rattle.format.proofs.Record.{holds_agree, meta2_at_agree, end_at_agree}
 use Rattle.format.proofs.Stripes.{length_lists, length_sizes, size_made, counts_put}
-use Rattle.format.proofs.Accepting.{Meta1Holds, fixed_numbered, rank_numbered, size_numbered, meta1_numbered, meta1_holds, meta2_numbered, block_in, tasks_in_hold, size_in_holds, maxchunks_in_holds, meta2_holds}
-use Rattle.front.proofs.Answers.{fixed_verdict, fixed_head, head_read}
-use Rattle.meta1.proofs.Answers.{lists_are, rest_verdict, rest_is}
+use Rattle.format.proofs.Accepting.{Meta1Holds, fixed_numbered, rank_numbered, size_numbered, meta1_numbered, meta1_holds, block_in, tasks_in_hold, size_in_holds, maxchunks_in_holds, meta2_holds}
+use Rattle.meta1.proofs.Answers.{lists_are}
 use Rattle.format.specs.declared.loaded.LoadAnswer.{LoadAnswer}
 use Rattle.format.specs.Loaded.{loaded_of, no_loaded}
 use Rattle.format.specs.Load.{meta2_bytes, loaded_in, lists_in, load_tests, load_refusal, load_fault, check_answer, load_table}
 use Rattle.format.specs.Passed.{Meta2Fits}
+use Rattle.format.proofs.Judged.{verdict_of, broken_fails, passed_passes, answer_first, answer_next}
 use Rattle.format.proofs.LoadTests.{load_holds}
 
 some_number : {r : ℕ} → (r ≡ 0 → ⊥) → 0 < r
 some_number some = ⊎_elim (λ none. absurd (some none)) (λ l. l) (eq-zero-or-pos _)
 
--- ---- what META1's two parts give
+-- ---- the defaults are zeros
 
-module _ (f : File) (image : List ℕ) {one : Fixed} (gives : one ≡ fixed_gives f image (length image)) where
-  fixed_found : verdict (fixed_tests image f (length image)) ≡ one.verdict
-  fixed_found = sym (fixed_verdict f image (length image)) ∙ ap (λ (x : Fixed). x.verdict) (sym gives)
+pub fault_zeros : (f : Fault)
+    → (f.place ≡ 0) × ((f.says ≡ pos 0) × ((f.least ≡ pos 0) × ((f.most ≡ pos 0) × ((f.field ≡ 0) × ((f.task ≡ 0) × (f.chunk ≡ 0))))))
+    → f ≡ no_fault
+fault_zeros f (place, (says, (least, (most, (field, (task, chunk)))))) =
+    λ i. fault_of (field i) (task i) (chunk i) (place i) (says i) (least i) (most i)
 
-  module _ (none : one.verdict.refusal ≡ 0) where
-    pub fixed_passed : first_failing (fixed_tests image f (length image)) ≡ 0
-    fixed_passed = (λ i. (fixed_found i).refusal) ∙ none
+pub head_zeros : (h : Head)
+    → (h.order ≡ 0)
+    × ((h.version ≡ pos 0) × ((h.patch ≡ pos 0) × ((h.format ≡ 0) × ((h.blocksize ≡ 0) × ((h.n ≡ 0) × ((h.files ≡ 0) × (h.file ≡ 0)))))))
+    → h ≡ no_head
+head_zeros h (order, (version, (patch, (format, (blocksize, (n, (files, file))))))) =
+    λ i. head_of (order i) (version i) (patch i) (format i) (blocksize i) (n i) (files i) (file i)
 
-    pub read : HeadRead image (length image) one.head
-    read =
-        head_read f image (length image) (λ k l m. l) fixed_passed
-        (ap (λ (x : Fixed). x.head) gives ∙ fixed_head f image (length image) fixed_passed)
-
-module _ (f : File) (image : List ℕ) (fixed : first_failing (fixed_tests image f (length image)) ≡ 0) {last : Last}
-    (gives : last ≡ rest_gives image (length image)) where
-  rest_found : verdict (rest_tests image (length image)) ≡ last.verdict
-  rest_found = sym (rest_verdict image (length image)) ∙ ap (λ (l : Last). l.verdict) (sym gives)
-
-  meta1_found : verdict (meta1_tests image f (length image)) ≡ last.verdict
-  unfolding meta1_tests
-  meta1_found = verdict_passes (fixed_tests image f (length image)) _ (fixed_numbered image f (length image)) fixed ∙ rest_found
-
--- ---- refused, the number is handed back with a record of zeros
-
--- what is answered by a verdict that does not pass
-abbrev pub refused_by : Verdict → LoadAnswer
-refused_by v = record { loaded = no_loaded; lists = no_lists; refusal = v.refusal; fault = v.fault }
+-- ---- what C is handed
 
 module _ (f : File) (image : List ℕ) (cells : ℕ) where
-  refused_answer : {v : Verdict} → (v.refusal ≡ 0 → ⊥) → verdict (load_tests f image cells) ≡ v → refused_by v ≡ check_answer f image cells
+  -- accepted, the record and its lists
+  pub accepted_answer : passed ≡ verdict (load_tests f image cells) → {loaded : Loaded} {lists : List ℕ} → loaded ≡ loaded_in image
+      → lists ≡ lists_in image
+      → record { loaded = loaded; lists = lists; refusal = 0; fault = no_fault } ≡ check_answer f image cells
+  unfolding check_answer load_refusal
+  accepted_answer passes loaded_is lists_is =
+      (λ i. record { loaded = loaded_is i; lists = lists_is i; refusal = 0; fault = no_fault })
+      ∙ sym (when_accepted (first_failing (load_tests f image cells)) _ _ (passed_passes (load_tests f image cells) passes))
+
+  -- refused, what is broken, with a record of zeros
+  pub refused_answer : (b : Broken) → verdict_of b ≡ verdict (load_tests f image cells)
+      → record { loaded = no_loaded; lists = no_lists; refusal = number_of b.refusal; fault = b.fault } ≡ check_answer f image cells
   unfolding check_answer load_refusal load_fault
-  refused_answer {v} some e =
-      let number : v.refusal ≡ first_failing (load_tests f image cells) = λ i. (sym e i).refusal in
-      let refused : 0 < first_failing (load_tests f image cells) = omega (arith, some_number some) in
-      sym (when_refused (first_failing (load_tests f image cells)) _ _ refused ∙ (λ i. refused_by (e i)))
+  refused_answer b e =
+      (λ i. record { loaded = no_loaded; lists = no_lists; refusal = (e i).refusal; fault = (e i).fault })
+      ∙ sym (when_refused (first_failing (load_tests f image cells)) _ _ (broken_fails (load_tests f image cells) b e))
 
-  at_meta1 : {v : Verdict} → (v.refusal ≡ 0 → ⊥) → verdict (meta1_tests image f (length image)) ≡ v → verdict (load_tests f image cells) ≡ v
-  unfolding load_tests
-  at_meta1 {v} some e =
-      let number : v.refusal ≡ first_failing (meta1_tests image f (length image)) = λ i. (sym e i).refusal in
-      verdict_fails (meta1_tests image f (length image)) _ (omega (arith, some_number some)) ∙ e
+  -- ---- refused by the fixed fields of META1, and by the rest of it
 
-  -- by the fixed fields of META1, and by the rest of it
-  pub refused_fixed : {one : Fixed} → one ≡ fixed_gives f image (length image) → (one.verdict.refusal ≡ 0 → ⊥)
-      → refused_by one.verdict ≡ check_answer f image cells
-  unfolding meta1_tests
-  refused_fixed {one} gives some =
-      let e = fixed_found f image gives in
-      let number : one.verdict.refusal ≡ first_failing (fixed_tests image f (length image)) = λ i. (sym e i).refusal in
-      refused_answer some (at_meta1 some (verdict_fails (fixed_tests image f (length image)) _ (omega (arith, some_number some)) ∙ e))
+  pub at_fixed : (b : Broken) → verdict_of b ≡ verdict (fixed_tests image f (length image)) → verdict_of b ≡ verdict (load_tests f image cells)
+  unfolding load_tests meta1_tests
+  at_fixed b e = answer_first (meta1_tests image f (length image)) _ b (answer_first (fixed_tests image f (length image)) _ b e)
 
-  pub refused_rest : first_failing (fixed_tests image f (length image)) ≡ 0 → {last : Last} → last ≡ rest_gives image (length image)
-      → (last.verdict.refusal ≡ 0 → ⊥) → refused_by last.verdict ≡ check_answer f image cells
-  refused_rest fixed gives some = refused_answer some (at_meta1 some (meta1_found f image fixed gives))
+  pub at_rest : passed ≡ verdict (fixed_tests image f (length image)) → (b : Broken) → verdict_of b ≡ verdict (rest_tests image (length image))
+      → verdict_of b ≡ verdict (load_tests f image cells)
+  unfolding load_tests meta1_tests
+  at_rest fixed b e =
+      answer_first (meta1_tests image f (length image)) _ b
+      (answer_next (fixed_tests image f (length image)) (rest_tests image (length image)) (fixed_numbered image f (length image)) fixed e)
 
 -- ---- META1 accepted: what META2 is judged by, and where it stands
 
@@ -179,25 +171,23 @@ counts_are h size m at part small zero =
 pub record Found (f : File) (image : List ℕ) (h : Head) (last : Last) (lists : List ℕ) : Type 0 where
   pub zero : first_failing (meta1_tests image f (length image)) ≡ 0
   pub head_is : h ≡ head_in image
-  pub last_is : last ≡ record { verdict = last.verdict; maxchunks = maxchunks_in image; start = meta2_in image }
+  pub last_is : last ≡ last_in image
   pub lists_is : lists ≡ lists_of (tasks_in image) (rank_in image) (size_in image) (λ i. 0)
 
-pub found : {f : File} {image : List ℕ} {h : Head} {last : Last} {lists : List ℕ} → first_failing (fixed_tests image f (length image)) ≡ 0
-    → HeadRead image (length image) h → last ≡ rest_gives image (length image) → lists ≡ lists_read image h → last.verdict.refusal ≡ 0
+pub found : {f : File} {image : List ℕ} {h : Head} {last : Last} {lists : List ℕ} → passed ≡ verdict (fixed_tests image f (length image))
+    → HeadRead image (length image) h → passed ≡ verdict (rest_tests image (length image)) → last ≡ last_in image → lists ≡ lists_read image h
     → Found f image h last lists
-unfolding rest_tests
-found {f} {image} {h} {last} {lists} fixed p gives read none =
-    let rest : first_failing (rest_tests image (length image)) ≡ 0 = (λ i. (rest_found f image fixed gives i).refusal) ∙ none in
-    let zero : first_failing (meta1_tests image f (length image)) ≡ 0 = (λ i. (meta1_found f image fixed gives i).refusal) ∙ none in
-    let (ranks, later) = both_pass (rank_tests image) _ (rank_numbered image (length image)) rest in
-    let sizes = (both_pass (requested_tests image) _ (size_numbered image (length image)) later).0 in
+unfolding meta1_tests rest_tests
+found {f} {image} {h} {last} {lists} fixed p rest last_is read =
+    let len = length image in
+    let (ranks, later) = both_pass (rank_tests image) _ (rank_numbered image len) (passed_passes (rest_tests image len) rest) in
+    let sizes = (both_pass (requested_tests image) _ (size_numbered image len) later).0 in
     record {
-      zero = zero;
+      zero =
+          passed_passes (meta1_tests image f len)
+          (answer_next (fixed_tests image f len) (rest_tests image len) (fixed_numbered image f len) fixed rest);
       head_is = p.head_is;
-      last_is =
-          gives
-          ∙ rest_is image (length image) rest
-          ∙ (λ i. record { verdict = rest_found f image fixed gives i; maxchunks = maxchunks_in image; start = meta2_in image });
+      last_is = last_is;
       lists_is = read ∙ lists_are p ranks sizes;
     }
 
@@ -217,14 +207,14 @@ module _ {f : File} {image : List ℕ} {h : Head} {last : Last} {lists : List �
   unfolding head_in
   cells_are = ap₂ (λ (h : Head) (l : Last). h.n * l.maxchunks) x.head_is x.last_is
 
-  pub refused_table : {cells : ℕ} → cells < h.n * last.maxchunks
-      → refused_by (record { refusal = 18; fault = number_fault Kinds.table 0 (pos cells) (h.n * last.maxchunks) (h.n * last.maxchunks) })
-      ≡ check_answer f image cells
+  -- by a table that has no room
+  pub at_table : {cells : ℕ} → cells < h.n * last.maxchunks
+      → record { refusal = 18; fault = number_fault Kinds.table 0 (pos cells) (h.n * last.maxchunks) (h.n * last.maxchunks) }
+      ≡ verdict (load_tests f image cells)
   unfolding load_tests
-  refused_table {cells} l =
-      (λ i. refused_by (record { refusal = 18; fault = number_fault Kinds.table 0 (pos cells) (cells_are i) (cells_are i) }))
-      ∙ refused_answer f image cells (λ z. omega arith)
-      (verdict_passes (meta1_tests image f (length image)) _ (meta1_numbered image f (length image)) x.zero
+  at_table {cells} l =
+      (λ i. record { refusal = 18; fault = number_fault Kinds.table 0 (pos cells) (cells_are i) (cells_are i) })
+      ∙ sym (verdict_passes (meta1_tests image f (length image)) _ (meta1_numbered image f (length image)) x.zero
       ∙ fails_first _ _ (lt-ltb cells (tasks_in image * maxchunks_in image) (rw (sym cells_are) l)))
 
   -- META2's part as the code takes it: from its start, L bytes, to its end
@@ -244,7 +234,6 @@ module _ {f : File} {image : List ℕ} {h : Head} {last : Last} {lists : List �
 
     pub there : length image < 2 ^ 64 → Meta2There part last.start h last.maxchunks lists
     there short = record {
-      as_many = rw x.lists_is (length_lists (tasks_in image) (rank_in image) (size_in image) (λ i. 0));
       sound = sound;
       small = few;
       whole =
@@ -252,9 +241,8 @@ module _ {f : File} {image : List ℕ} {h : Head} {last : Last} {lists : List �
       ends = omega (arith, part_long, fits);
     }
 
-    -- what META2 gave, for a table that has room
-    module _ {cells : ℕ} (room : h.n * last.maxchunks ≤ cells) {v : Verdict}
-        (judged : v ≡ verdict (meta2_tests h (size_of lists) last.maxchunks last.start part)) where
+    -- what META2 gave
+    module _ {v : Verdict} (judged : v ≡ verdict (meta2_tests h (size_of lists) last.maxchunks last.start part)) where
       second : verdict (meta2_tests (head_in image) (size_in image) (maxchunks_in image) (meta2_in image) (meta2_bytes image)) ≡ v
       unfolding head_in
       second =
@@ -265,45 +253,33 @@ module _ {f : File} {image : List ℕ} {h : Head} {last : Last} {lists : List �
           (meta2_agree (head_in image) (size_of (listed f image x.zero (λ i. 0))) (size_in image) (maxchunks_in image) (meta2_in image) (meta2_bytes image)
           (size_is f image x.zero (λ i. 0)))))
 
-      found_verdict : verdict (load_tests f image cells) ≡ v
+      -- for a table that has room
+      pub at_meta2 : {cells : ℕ} → h.n * last.maxchunks ≤ cells → v ≡ verdict (load_tests f image cells)
       unfolding load_tests
-      found_verdict =
-          verdict_passes (meta1_tests image f (length image)) _ (meta1_numbered image f (length image)) x.zero
+      at_meta2 {cells} room =
+          sym (verdict_passes (meta1_tests image f (length image)) _ (meta1_numbered image f (length image)) x.zero
           ∙ passes_first _ _ (le-ltb cells (tasks_in image * maxchunks_in image) (rw (sym cells_are) room))
-          ∙ second
+          ∙ second)
 
-      pub refused_meta2 : (v.refusal ≡ 0 → ⊥) → refused_by v ≡ check_answer f image cells
-      refused_meta2 some = refused_answer f image cells some found_verdict
+    -- accepted, the record and its lists are those of the image
+    pub loaded_is : loaded_of h last.maxchunks 0 ≡ loaded_in image
+    unfolding loaded_in
+    loaded_is = λ i. loaded_of (x.head_is i) (x.last_is i).maxchunks 0
 
-      -- accepted, the record is handed back, and no fault
-      module _ (zero : v.refusal ≡ 0) where
-        second_passes : first_failing (meta2_tests (head_in image) (size_in image) (maxchunks_in image) (meta2_in image) (meta2_bytes image)) ≡ 0
-        second_passes = (λ i. (second i).refusal) ∙ zero
-
-        no_fault_found : v.fault ≡ no_fault
-        no_fault_found =
-            (λ i. (sym second i).fault)
-            ∙ (λ i. (verdict_none _ (meta2_numbered (head_in image) (size_in image) (maxchunks_in image) (meta2_bytes image) (meta2_in image)) second_passes i).fault)
-
-        all_passed : load_refusal f image cells ≡ 0
-        unfolding load_refusal
-        all_passed = (λ i. (found_verdict i).refusal) ∙ zero
-
-        pub accepted : {counted : List ℕ} → counted ≡ with_counts lists h.n (λ i. number_at (is_big h) 8 part (8 * i))
-            → record { loaded = loaded_of h last.maxchunks 0; lists = counted; refusal = 0; fault = v.fault } ≡ check_answer f image cells
-        unfolding check_answer loaded_in lists_in lists_of head_in
-        accepted {counted} e =
-            let n = tasks_in image in
-            let ranks = filled n (rank_in image) in
-            let sizes = filled n (size_in image) in
-            let made : counted ≡ lists_in image =
-            e
-            ∙ rw (part_is, x.head_is, x.lists_is)
-            (counts_put n (rank_in image) (size_in image) (few_tasks f image x.zero) (λ i. number_at (is_big (head_in image)) 8 (meta2_bytes image) (8 * i))
-            ∙ ap (λ (xs : List ℕ). ranks ++ (sizes ++ xs))
-            (counts_are (head_in image) (size_in image) (maxchunks_in image) (meta2_in image) (meta2_bytes image) (few_chunks f image x.zero) second_passes)) in
-            (λ i. record { loaded = loaded_of (x.head_is i) (x.last_is i).maxchunks 0; lists = made i; refusal = 0; fault = no_fault_found i })
-            ∙ sym (when_accepted (load_refusal f image cells) _ _ all_passed)
+    pub lists_are_in : passed ≡ verdict (meta2_tests h (size_of lists) last.maxchunks last.start part) → {counted : List ℕ}
+        → counted ≡ with_counts lists h.n (λ i. number_at (is_big h) 8 part (8 * i))
+        → counted ≡ lists_in image
+    unfolding lists_in lists_of head_in
+    lists_are_in judged {counted} e =
+        let n = tasks_in image in
+        let ranks = filled n (rank_in image) in
+        let sizes = filled n (size_in image) in
+        let passes = passed_passes (meta2_tests (head_in image) (size_in image) (maxchunks_in image) (meta2_in image) (meta2_bytes image)) (sym (second judged)) in
+        e
+        ∙ rw (part_is, x.head_is, x.lists_is)
+        (counts_put n (rank_in image) (size_in image) (few_tasks f image x.zero) (λ i. number_at (is_big (head_in image)) 8 (meta2_bytes image) (8 * i))
+        ∙ ap (λ (xs : List ℕ). ranks ++ (sizes ++ xs))
+        (counts_are (head_in image) (size_in image) (maxchunks_in image) (meta2_in image) (meta2_bytes image) (few_chunks f image x.zero) passes))
 
 -- ---- a load: the check, then the table
 

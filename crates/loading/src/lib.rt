@@ -1,114 +1,93 @@
-// Loading: a container checked whole, its record handed back and its values put into the table.
+// Loading: a container judged whole, its record handed back and its values put into the table.
 #![tactic(auto)]
 
-ghost use Rattle.std.specs.Prelude.{◌≡◌};
+ghost use Rattle.std.specs.Prelude.{◌≡◌, IfOk, OnOk};
 ghost use Rattle.lists.specs.Splice.{splice};
-ghost use Rattle.format.specs.declared.head.Head.{Head};
-ghost use Rattle.format.specs.declared.head.File.{File};
 ghost use Rattle.format.specs.declared.head.File.TheVariants.{Single};
 ghost use Rattle.format.specs.Meta2.{meta2_part};
 ghost use Rattle.format.specs.Record.{size_of, no_lists, meta2_at};
 ghost use Rattle.format.specs.Judge.{values_in};
-ghost use Rattle.format.specs.Refusals.{Verdict};
-ghost use Rattle.format.specs.declared.loaded.LoadAnswer.{LoadAnswer};
-ghost use Rattle.format.specs.Loaded.{no_loaded};
-ghost use Rattle.format.specs.Load.{check_answer, load_answer, load_table};
+ghost use Rattle.format.specs.Refusals.{judged, verdict};
+ghost use Rattle.format.specs.Load.{loaded_in, lists_in, load_tests, load_answer, load_table};
 ghost use Rattle.format.specs.Passed.{Meta2Fits};
 
-use format::fault::Verdict;
+use format::fault::{Broken, Fault, Field};
 use format::head::{File, Head, LISTS};
 use format::loaded::{LoadAnswer, Loaded};
-use format::{fault, head, refusal};
-use rules::heads;
+use format::refusal::Refusal;
+use layout::Layout;
 
-// A verdict that does not pass, beside a record of zeros marked closed.
-fn no_container(verdict: Verdict) -> LoadAnswer
-    ensures { result ≡ record { loaded = no_loaded; lists = no_lists; refusal = verdict.refusal; fault = verdict.fault } }
-{
-    let head = heads::no_head();
-    let lists = [0; LISTS];
-    let fault = verdict.fault;
-    LoadAnswer {
-        loaded: Loaded {
-            head,
-            maxchunks: 0,
-            closed: 1,
-        },
-        lists,
-        refusal: verdict.refusal,
-        fault,
-    }
-}
-
-// Checks an image as the file that the call means, tests 1 to 12, 18 and 13 in the order of document 01, for a table of so many cells; no table is
-// touched.
-pub fn check(file: File, image: &[u8], cells: usize) -> LoadAnswer
-    ensures { result ≡ check_answer file image.now cells }
+// An image judged as the file that the call means, tests 1 to 12, 18 and 13 in the order of document 01, for a table of so many cells, which is not
+// touched. Where they pass, the record is handed back, and lists of zeros are its lists.
+pub fn judge(
+    file: File,
+    image: &[u8],
+    cells: usize,
+    lists: &mut [u64; LISTS],
+) -> Result<Loaded, Broken>
+    requires { lists.old ≡ no_lists }
+    ensures verdict { judged result ≡ verdict (load_tests file image.now cells) }
+    ensures loaded { IfOk result (λ loaded. loaded ≡ loaded_in image.now) }
+    ensures lists_after { OnOk result (lists.new ≡ lists_in image.now) }
 {
     let len = image.len() as u64;
-    let one = front::judge_fixed(file, image, len);
-    if one.verdict.refusal != 0 {
-        return no_container(one.verdict);
-    }
-    let head = one.head;
-    let mut lists = [0; LISTS];
-    let last = meta1::judge_lists(image, len, head, &mut lists);
-    if last.verdict.refusal != 0 {
-        return no_container(last.verdict);
-    }
+    let head = front::judge_fixed(file, image, len)?;
+    let last = meta1::judge_lists(image, len, head, lists)?;
     let maxchunks = last.maxchunks;
-    let needed = head.n as usize * maxchunks as usize;
+    let (cells, needed) = (cells as u64, head.n as u64 * maxchunks as u64);
     if cells < needed {
-        return no_container(faults::not_as_needed(
-            refusal::TOO_SHORT,
-            fault::TABLE,
-            0,
-            cells as u64,
-            needed as u64,
-        ));
+        return Err(faults::not_as_needed(Refusal::TooShort, Field::Table, 0, cells, needed));
     }
     let start = last.start as usize;
     let end = start + layout::meta2_length(head.n, maxchunks) as usize;
-    let two = meta2::judge(&image[start..end], last.start, head, maxchunks, &mut lists);
-    if two.refusal != 0 {
-        return no_container(two);
-    }
-    let fault = two.fault;
-    LoadAnswer {
-        loaded: Loaded {
-            head,
-            maxchunks,
-            closed: 0,
-        },
-        lists,
-        refusal: 0,
-        fault,
-    }
+    meta2::judge(&image[start..end], last.start, head, maxchunks, lists)?;
+    Ok(Loaded {
+        head,
+        maxchunks,
+        closed: 0,
+    })
 }
 
 // The values of a container that passed its tests, into the table's start.
-pub fn fill(image: &[u8], h: Head, lists: &[u64], maxchunks: u32, table: &mut [i64])
-    requires { Meta2Fits h lists.now maxchunks image.now table.old }
-    ensures { table.new ≡ splice table.old 0 (values_in h maxchunks (meta2_part image.now (meta2_at h (size_of lists.now) maxchunks) h.n maxchunks)) }
+pub fn fill(image: &[u8], loaded: Loaded, lists: &[u64; LISTS], table: &mut [i64])
+    requires { Meta2Fits loaded.head lists.now loaded.maxchunks image.now table.old }
+    ensures { table.new ≡ splice table.old 0 (values_in loaded.head loaded.maxchunks
+        (meta2_part image.now (meta2_at loaded.head (size_of lists.now) loaded.maxchunks) loaded.head.n loaded.maxchunks)) }
 {
-    let sizes = &lists[head::SIZES..head::COUNTS];
-    let start = layout::meta2_start(sizes, h.n, h.blocksize, maxchunks) as usize;
-    let end = start + layout::meta2_length(h.n, maxchunks) as usize;
+    let h = loaded.head;
+    let start = Layout::of(h, lists).meta2_start(loaded.maxchunks) as usize;
+    let end = start + layout::meta2_length(h.n, loaded.maxchunks) as usize;
     let n = h.n as usize;
-    let cells = n * maxchunks as usize;
-    meta2::fill(table, cells, &image[start..end], 8 * n, h.order == 1);
+    let cells = &mut table[..n * loaded.maxchunks as usize];
+    meta2::fill(cells, &image[start..end], 8 * n, h.order == 1);
 }
 
-// Checks an image. Accepted, the record is handed back and the first n times maxchunks cells are filled.
+// Judges an image. Accepted, the record is handed back and the first n times maxchunks cells are filled; refused, what is broken is, beside a record
+// of zeros marked closed.
 pub fn load(image: &[u8], table: &mut [i64]) -> LoadAnswer
     ensures value { result ≡ load_answer Single image.now table.old }
     ensures table_after { table.new ≡ load_table Single image.now table.old }
 {
-    let answer = check(File::Single, image, table.len());
-    if answer.refusal != 0 {
-        return answer;
+    let mut lists = [0; LISTS];
+    match judge(File::Single, image, table.len(), &mut lists) {
+        Ok(loaded) => {
+            fill(image, loaded, &lists, table);
+            LoadAnswer {
+                loaded,
+                lists,
+                refusal: 0,
+                fault: Fault::default(),
+            }
+        }
+        Err(broken) => LoadAnswer {
+            loaded: Loaded {
+                head: Head::default(),
+                maxchunks: 0,
+                closed: 1,
+            },
+            lists: [0; LISTS],
+            refusal: broken.refusal.number(),
+            fault: broken.fault,
+        },
     }
-    let loaded = answer.loaded;
-    fill(image, loaded.head, &answer.lists, loaded.maxchunks, table);
-    answer
 }

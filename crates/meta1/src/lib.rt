@@ -95,7 +95,10 @@ fn bad_entry(
 ) -> Broken
     requires place { (i < length stripe.now) × (i < max_tasks) × (from < 2 ^ 32) }
     requires bounds { (least < 2 ^ 63) × (most < 2 ^ 63) }
-    ensures { result ≡ record { refusal = refusal; fault = fault_of (kind_of field) (suc i) 0 (from + 8 * i) (signed 63 (entry stripe.now i)) (pos least) (pos most) } }
+    ensures { result ≡ record {
+      refusal = refusal;
+      fault = fault_of (kind_of field) (suc i) 0 (from + 8 * i) (signed 63 (entry stripe.now i)) (pos least) (pos most);
+    } }
 {
     let place = (from + 8 * i) as u64;
     faults::number8(refusal, field, i as u32 + 1, place, stripe[i], least, most)

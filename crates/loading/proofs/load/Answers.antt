@@ -1,29 +1,33 @@
--- The check, and where it accepts the table's cells.
+-- What was judged, and where it is accepted the table's cells.
+use mathlib.Core.Path.{◌≡◌, refl, ◌∙◌}
+use native.Mathlib.Omega.{arith}
 use Rattle.format.specs.Load.{load_answer}
-use Rattle.loading.proofs.LoadAnswers.{table_kept, fillable, table_filled}
+use Rattle.format.specs.Record.{no_head, no_lists}
+use Rattle.format.proofs.Refusals.{some_number}
+use Rattle.loading.proofs.LoadAnswers.{fault_zeros, head_zeros, accepted_answer, refused_answer, table_kept, fillable, table_filled}
 use Rattle.loading.proofs.load.Goals as goal
 
-pub returns-then-answer-ne0-clause-value : goal.returns-then-answer-ne0-clause-value
-unfolding load_answer
-returns-then-answer-ne0-clause-value c =
-    let e = c.check-answer.ensures in
-    e
-
-pub returns-then-answer-ne0-clause-table_after : goal.returns-then-answer-ne0-clause-table_after
-unfolding load_answer
-returns-then-answer-ne0-clause-table_after c =
-    let e = c.check-answer.ensures in
-    table_kept _ _ _ e c.if-answer-ne0.true
-
 pub fill-requires : goal.fill-requires
-fill-requires c = fillable _ _ _ c.check-answer.ensures c.if-answer-ne0.false
+fill-requires c =
+    fillable _ _ _ (accepted_answer _ _ _ c.in-Ok.ensures.verdict c.in-Ok.ensures.loaded c.in-Ok.ensures.lists_after) refl
 
-pub returns-clause-value : goal.returns-clause-value
+pub returns-in-Ok-clause-value : goal.returns-in-Ok-clause-value
 unfolding load_answer
-returns-clause-value c =
-    c.check-answer.ensures
+returns-in-Ok-clause-value c =
+    (λ i. record { loaded = c.in-Ok.loaded; lists = c.judge.new.lists; refusal = 0; fault = fault_zeros c.default.result c.default.ensures i })
+    ∙ accepted_answer _ _ _ c.in-Ok.ensures.verdict c.in-Ok.ensures.loaded c.in-Ok.ensures.lists_after
 
-pub returns-clause-table_after : goal.returns-clause-table_after
+pub returns-in-Ok-clause-table_after : goal.returns-in-Ok-clause-table_after
+returns-in-Ok-clause-table_after c =
+    table_filled _ _ _ (accepted_answer _ _ _ c.in-Ok.ensures.verdict c.in-Ok.ensures.loaded c.in-Ok.ensures.lists_after) refl c.fill.ensures
+
+pub returns-in-Err-clause-value : goal.returns-in-Err-clause-value
 unfolding load_answer
-returns-clause-table_after c =
-    table_filled _ _ _ c.check-answer.ensures c.if-answer-ne0.false c.fill.ensures
+returns-in-Err-clause-value c =
+    let zeros : c.default-in-Err.result ≡ no_head = head_zeros c.default-in-Err.result c.default-in-Err.ensures in
+    (λ i. record { loaded = record { head = zeros i; maxchunks = 0; closed = 1 }; lists = no_lists; refusal = c.number.ensures i; fault = c.in-Err.broken.fault })
+    ∙ refused_answer _ _ _ c.in-Err.broken c.in-Err.ensures.verdict
+
+pub returns-in-Err-clause-table_after : goal.returns-in-Err-clause-table_after
+returns-in-Err-clause-table_after c =
+    table_kept _ _ _ (refused_answer _ _ _ c.in-Err.broken c.in-Err.ensures.verdict) (λ e. omega (arith, some_number c.in-Err.broken.refusal))
