@@ -1,34 +1,37 @@
 // Closing a session: META2, then META1's last two fields stored, the session marked closed, and the container's length.
 #![tactic(auto)]
 
-ghost use Rattle.std.specs.Prelude.{◌≡◌, ◌≤◌, length};
+ghost use Rattle.std.specs.Prelude.{◌≡◌, ◌≤◌};
 ghost use Rattle.format.specs.Limits.{max_tasks};
 ghost use Rattle.format.specs.declared.head.Head.{Head};
 ghost use Rattle.format.specs.declared.head.File.TheVariants.{Single};
-ghost use Rattle.format.specs.Record.{all_lists, size_of, end_at};
+ghost use Rattle.format.specs.Record.{size_of, end_at};
 ghost use Rattle.format.specs.declared.session.Session.{Session};
-ghost use Rattle.format.specs.declared.session.Closed.{Closed};
 ghost use Rattle.format.specs.Session.{state_of};
 ghost use Rattle.lists.specs.Stores.{found};
+ghost use Rattle.format.specs.Answers.{closed_of};
 ghost use Rattle.format.specs.Close.{maxchunks_of, closing_stores, close_answer, close_image, close_found};
 ghost use Rattle.format.specs.Passed.{Meta2Fits};
 
-use format::head::{File, Head, LISTS};
-use format::session::{Closed, Session};
-use format::{head, limit};
+use format::head::{COUNTS, File, Head, LISTS};
+use format::limit::ENDLESS;
+use format::refusal::Refusal;
+use format::session::{Finished, Session};
+use layout::Layout;
 
 // The greatest of the counts.
-pub fn most_chunks(lists: &[u64], n: u32) -> u64
-    requires { (length lists.now ≡ all_lists) × (n ≤ max_tasks) }
+pub fn most_chunks(lists: &[u64; LISTS], n: u32) -> u64
+    requires { n ≤ max_tasks }
     ensures { result ≡ maxchunks_of n lists.now }
 {
-    tables::greatest(&lists[head::COUNTS..LISTS], n as usize)
+    let counts = &lists[COUNTS..];
+    tables::greatest(&counts[..n as usize])
 }
 
 // META2, then the fields that say how long it is and where: the end of META2.
 pub fn finish(
     h: Head,
-    lists: &[u64],
+    lists: &[u64; LISTS],
     maxchunks: u32,
     image: &mut [u8],
     table: &[i64],
@@ -39,13 +42,8 @@ pub fn finish(
     ensures value { result ≡ end_at h (size_of lists.now) maxchunks }
 {
     let big = h.order == 1;
-    let start = layout::meta2_start(
-        &lists[head::SIZES..head::COUNTS],
-        h.n,
-        h.blocksize,
-        maxchunks,
-    );
-    let counts = &lists[head::COUNTS..LISTS];
+    let start = Layout::of(h, lists).meta2_start(maxchunks);
+    let counts = &lists[COUNTS..];
     let left = emit::meta2(
         image,
         start as usize,
@@ -60,41 +58,33 @@ pub fn finish(
     start + layout::meta2_length(h.n, maxchunks)
 }
 
-// Closes a session: tests 17, 18 and 19. The numbers come back marked closed, or refused, as given. Of the byte stores into the image only the first
-// `budget` are made.
+// Closes a session: tests 17, 18 and 19. The numbers come back marked closed. Of the byte stores into the image only the first `budget` are made.
 pub fn close_within(
     s: Session,
     lists: &[u64; LISTS],
     image: &mut [u8],
     table: &[i64],
     budget: u64,
-) -> Closed
-    ensures value { result ≡ close_answer (state_of Single s lists.now image.old table.now) }
+) -> Result<Finished, Refusal>
+    ensures value { closed_of s result ≡ close_answer (state_of Single s lists.now image.old table.now) }
     ensures image_after { image.new ≡ close_found (state_of Single s lists.now image.old table.now) budget }
 {
-    let refusal = records::session_refusal(File::Single, s, lists, image, table);
-    if refusal != 0 {
-        return Closed {
-            refusal,
-            session: s,
-            length: 0,
-        };
-    }
+    records::test_session(File::Single, s, lists, image, table)?;
     let maxchunks = most_chunks(lists, s.head.n) as u32;
     let length = finish(s.head, lists, maxchunks, image, table, budget);
-    let mut session = s;
-    session.closed = 1;
-    Closed {
-        refusal: 0,
-        session,
-        length,
-    }
+    let session = Session { closed: 1, ..s };
+    Ok(Finished { session, length })
 }
 
 // The same, with all of its stores.
-pub fn close(s: Session, lists: &[u64; LISTS], image: &mut [u8], table: &[i64]) -> Closed
-    ensures value { result ≡ close_answer (state_of Single s lists.now image.old table.now) }
+pub fn close(
+    s: Session,
+    lists: &[u64; LISTS],
+    image: &mut [u8],
+    table: &[i64],
+) -> Result<Finished, Refusal>
+    ensures value { closed_of s result ≡ close_answer (state_of Single s lists.now image.old table.now) }
     ensures image_after { image.new ≡ close_image (state_of Single s lists.now image.old table.now) }
 {
-    close_within(s, lists, image, table, limit::ENDLESS)
+    close_within(s, lists, image, table, ENDLESS)
 }

@@ -1,5 +1,5 @@
--- Laws of numbers as bytes, each once for every width and in either order: lengths, bytes, there and back (from `specs.RoundTrip`), that a number has one list of bytes, and a
--- number from its bytes one by one.
+-- Laws of numbers as bytes, each once for every width and in either order: lengths, and there and back (both from `specs.RoundTrip`), bytes, that a
+-- number has one list of bytes, and a number from its bytes one by one.
 use mathlib.Core.Path.{◌≡◌, refl, sym, ap, ap₂, ◌∙◌}
 use mathlib.Core.Bool.{Bool, true, false}
 use mathlib.Core.List.{List, [], ◌∷◌, reverse, reverse_aux, reverse-reverse}

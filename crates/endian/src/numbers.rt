@@ -33,6 +33,7 @@ pub trait Number: Copy {
     fn to_bytes(self, big: bool) -> Self::Bytes
         ensures { Self.Bytes.items result ≡ bytes_of big self };
 
+    // It has some bytes, always as many, and is what is read from them.
     ghost wide: { 0 < WIDTH };
 
     ghost length_bytes: { (big : Bool) (v : Self) → length (bytes_of big v) ≡ WIDTH };

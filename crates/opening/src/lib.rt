@@ -21,6 +21,7 @@ use format::limit::MAX_TASKS;
 use format::refusal::Refusal;
 use format::session::{Opened, Plan, Room, Session};
 use format::{field, head, limit};
+use layout::Layout;
 use rules::{heads, limits};
 
 // A refusal beside a record of zeros marked closed.
@@ -111,9 +112,13 @@ pub fn needs(
     )?;
     test_numbers(ranks, sizes, plan.planned)?;
     let n = ranks.len() as u32;
-    let image = layout::meta2_end(sizes, n, plan.blocksize, plan.planned);
+    let layout = Layout {
+        n,
+        blocksize: plan.blocksize,
+        sizes,
+    };
     Ok(Room {
-        image,
+        image: layout.meta2_end(plan.planned),
         cells: n as u64 * plan.planned as u64,
     })
 }

@@ -15,9 +15,9 @@ ghost use Rattle.pairs.specs.Open.{pair_needs, pair_open_refusal, pair_opened, p
 ghost use Rattle.pair_opening.specs.Short.{short_of};
 
 use format::head::{File, LISTS};
-use format::session::{Plan, Session};
 use format::limit;
 use format::refusal::Refusal;
+use format::session::{Plan, Session};
 use pairs::{PairOpened, PairRoom};
 use rules::heads;
 
@@ -174,11 +174,13 @@ pub fn open_within(
         table1,
         budget1,
     );
+    let lists0 = one.lists;
+    let lists1 = two.lists;
     PairOpened {
         session0: one.session,
-        lists0: one.lists,
+        lists0,
         session1: two.session,
-        lists1: two.lists,
+        lists1,
         refusal: 0,
     }
 }

@@ -8,6 +8,8 @@ use Rattle.pairs.specs.declared.PairRoom.{PairRoom}
 use Rattle.pairs.specs.declared.PairNeeded.{PairNeeded}
 use Rattle.pairs.specs.declared.PairFinished.{PairFinished}
 use Rattle.pairs.specs.declared.PairClosed.{PairClosed}
+use Rattle.pairs.specs.declared.PairPlace.{PairPlace}
+use Rattle.pairs.specs.declared.PairPart.{PairPart}
 
 abbrev pub pair_needed_of : Result PairRoom Refusal → PairNeeded
 pair_needed_of (Ok room) = record { refusal = 0; image0 = room.image0; cells0 = room.cells0; image1 = room.image1; cells1 = room.cells1 }
@@ -18,3 +20,7 @@ abbrev pub pair_closed_of : Session → Session → Result PairFinished Refusal 
 pair_closed_of s₀ s₁ (Ok done) =
     record { refusal = 0; session0 = done.session0; session1 = done.session1; length0 = done.length0; length1 = done.length1 }
 pair_closed_of s₀ s₁ (Err refusal) = record { refusal = number_of refusal; session0 = s₀; session1 = s₁; length0 = 0; length1 = 0 }
+
+abbrev pub pair_part_of : Result PairPlace Refusal → PairPart
+pair_part_of (Ok place) = record { refusal = 0; file = place.file; start = place.start; length = place.length }
+pair_part_of (Err refusal) = record { refusal = number_of refusal; file = 0; start = 0; length = 0 }

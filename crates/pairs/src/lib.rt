@@ -5,7 +5,7 @@
 
 ghost use Rattle.std.specs.Prelude.{◌≡◌};
 ghost use Rattle.format.specs.declared.session.Session.{Session};
-ghost use Rattle.pairs.specs.Answers.{pair_needed_of, pair_closed_of};
+ghost use Rattle.pairs.specs.Answers.{pair_needed_of, pair_closed_of, pair_part_of};
 
 use format::fault::Fault;
 use format::head::LISTS;
@@ -81,7 +81,15 @@ pub struct PairLoaded {
     pub fault: Fault,
 }
 
-// Where the written bytes of one chunk lie, in which of the two images.
+// Where the written bytes of one chunk lie, in which of the two images: 0 or 1.
+#[derive(Clone, Copy)]
+pub struct PairPlace {
+    pub file: u32,
+    pub start: u64,
+    pub length: u64,
+}
+
+// The same for C, with the number of a refusal.
 #[repr(C)]
 #[derive(Clone, Copy)]
 pub struct PairPart {
@@ -132,6 +140,27 @@ impl PairClosed {
                 session1: s1,
                 length0: 0,
                 length1: 0,
+            },
+        }
+    }
+}
+
+impl From<Result<PairPlace, Refusal>> for PairPart {
+    ghost from_gives = { λ answer part. part ≡ pair_part_of answer };
+
+    fn from(answer: Result<PairPlace, Refusal>) -> PairPart {
+        match answer {
+            Ok(place) => PairPart {
+                refusal: 0,
+                file: place.file,
+                start: place.start,
+                length: place.length,
+            },
+            Err(refusal) => PairPart {
+                refusal: refusal.number(),
+                file: 0,
+                start: 0,
+                length: 0,
             },
         }
     }

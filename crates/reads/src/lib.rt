@@ -1,22 +1,23 @@
 // The copying read of a task's stream, and its total, over the chunks that `chunks` hands back.
 #![tactic(auto)]
 
-ghost use Rattle.std.specs.Prelude.{◌≡◌, ◌+◌, ◌-◌, ◌<◌, ◌≤◌, min, length, take, drop};
+ghost use Rattle.std.specs.Prelude.{◌≡◌, ◌+◌, ◌-◌, ◌<◌, ◌≤◌, min, length, take, drop, IfOk};
 ghost use Rattle.lists.specs.Splice.{splice};
 ghost use Rattle.format.specs.declared.head.File.TheVariants.{Single};
 ghost use Rattle.format.specs.Record.{file_in};
 ghost use Rattle.format.specs.declared.loaded.Loaded.{Loaded};
-ghost use Rattle.format.specs.declared.loaded.ByteCount.{ByteCount};
+ghost use Rattle.format.specs.Answers.{byte_count};
 ghost use Rattle.format.specs.Reads.{container_of, stream_of, total_of, total_answer, read_answer, read_output};
 ghost use Rattle.format.specs.Passed.{Readable};
 
+use format::head;
 use format::head::{File, LISTS};
-use format::loaded::{ByteCount, Loaded};
-use format::{head, refusal};
+use format::loaded::Loaded;
+use format::refusal::Refusal;
 use stores::memory;
 
 // The bytes of a task that the tests allow, over all its chunks.
-pub fn total_of(l: Loaded, lists: &[u64], image: &[u8], table: &[i64], task: u64) -> u64
+pub fn total_of(l: Loaded, lists: &[u64; LISTS], image: &[u8], table: &[i64], task: u64) -> u64
     requires { Readable (container_of (file_in l.head) l lists.now image.now table.now) task }
     ensures { result ≡ total_of (container_of (file_in l.head) l lists.now image.now table.now) task }
 {
@@ -31,15 +32,17 @@ pub fn total_of(l: Loaded, lists: &[u64], image: &[u8], table: &[i64], task: u64
 }
 
 // A task's bytes over all its chunks.
-pub fn total(l: Loaded, lists: &[u64; LISTS], image: &[u8], table: &[i64], task: u64) -> ByteCount
-    ensures { result ≡ total_answer (container_of Single l lists.now image.now table.now) task }
+pub fn total(
+    l: Loaded,
+    lists: &[u64; LISTS],
+    image: &[u8],
+    table: &[i64],
+    task: u64,
+) -> Result<u64, Refusal>
+    ensures { byte_count result ≡ total_answer (container_of Single l lists.now image.now table.now) task }
 {
-    let refusal = chunks::read_refusal(File::Single, l, lists, image, table, task);
-    if refusal != 0 {
-        return ByteCount { refusal, bytes: 0 };
-    }
-    let bytes = total_of(l, lists, image, table, task);
-    ByteCount { refusal: 0, bytes }
+    chunks::test_read(File::Single, l, lists, image, table, task)?;
+    Ok(total_of(l, lists, image, table, task))
 }
 
 // Copies `part[skip..]` to `out[done..]`, as far as both go, and returns the new `done`.
@@ -65,7 +68,7 @@ fn copy_chunk(part: &[u8], skip: u64, out: &mut [u8], done: usize) -> usize
 // The stream of a task that the tests allow, from p on, into out, chunk by chunk until out is full: the bytes copied.
 pub fn copy_stream(
     l: Loaded,
-    lists: &[u64],
+    lists: &[u64; LISTS],
     image: &[u8],
     table: &[i64],
     task: u64,
@@ -91,7 +94,7 @@ pub fn copy_stream(
     done
 }
 
-// A task's stream from the place p on, copied into out across chunks.
+// A task's stream from the place p on, copied into out across chunks: the bytes copied.
 pub fn read(
     l: Loaded,
     lists: &[u64; LISTS],
@@ -100,20 +103,14 @@ pub fn read(
     task: u64,
     p: u64,
     out: &mut [u8],
-) -> ByteCount
-    ensures value { result ≡ read_answer (container_of Single l lists.now image.now table.now) task p out.old }
+) -> Result<usize, Refusal>
+    ensures value { byte_count result ≡ read_answer (container_of Single l lists.now image.now table.now) task p out.old }
     ensures out_after { out.new ≡ read_output (container_of Single l lists.now image.now table.now) task p out.old }
+    ensures in_bounds { IfOk result (λ copied. copied ≤ length out.old) }
 {
-    let refusal = chunks::read_refusal(File::Single, l, lists, image, table, task);
-    if refusal != 0 {
-        return ByteCount { refusal, bytes: 0 };
-    }
+    chunks::test_read(File::Single, l, lists, image, table, task)?;
     if total_of(l, lists, image, table, task) < p {
-        return ByteCount {
-            refusal: refusal::PAST_TOTAL,
-            bytes: 0,
-        };
+        return Err(Refusal::PastTotal);
     }
-    let bytes = copy_stream(l, lists, image, table, task, p, out) as u64;
-    ByteCount { refusal: 0, bytes }
+    Ok(copy_stream(l, lists, image, table, task, p, out))
 }

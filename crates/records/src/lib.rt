@@ -14,10 +14,11 @@ ghost use Rattle.format.specs.declared.loaded.Loaded.{Loaded};
 ghost use Rattle.format.specs.Loaded.{loaded_sound};
 ghost use Rattle.format.specs.Reads.{container_of, loaded_tests};
 
-use format::head::{COUNTS, File, Head, LISTS, SIZES};
+use format::head::{COUNTS, File, Head, LISTS};
 use format::loaded::Loaded;
 use format::refusal::Refusal;
 use format::session::Session;
+use layout::Layout;
 use rules::{heads, limits};
 
 // Tests 18 and 19 of a record for m chunks, where 17 passed.
@@ -31,14 +32,11 @@ pub fn test_lent(
     requires { Sound h.blocksize h.n (sizes_of lists.now) × (m ≤ max_blocks) }
     ensures { answered result ≡ first_failing (lent_tests h lists.now m image.now table.now) }
 {
-    let sizes = &lists[SIZES..COUNTS];
-    let n = h.n as usize;
-    if (image.len() as u64) < layout::meta2_end(sizes, h.n, h.blocksize, m)
-        || table.len() < n * m as usize
-    {
+    let layout = Layout::of(h, lists);
+    if (image.len() as u64) < layout.meta2_end(m) || table.len() < h.n as usize * m as usize {
         return Err(Refusal::TooShort);
     }
-    if !tables::cells_ok(table, n, h.blocksize, sizes, &lists[COUNTS..], m) {
+    if !tables::cells_ok(table, &layout, &lists[COUNTS..], m) {
         return Err(Refusal::CellsDisagree);
     }
     Ok(())
@@ -51,15 +49,12 @@ pub fn session_ok(file: File, s: Session, lists: &[u64; LISTS]) -> bool
     if !heads::head_ok(s.head, lists) {
         return false;
     }
-    if !limits::planned_ok(s.planned) {
-        return false;
-    }
+    let counts = &lists[COUNTS..];
+    let counts = &counts[..s.head.n as usize];
     let least = limits::least_count(s.head.format);
-    let n = s.head.n as usize;
-    if limits::first_outside(&lists[COUNTS..], n, least, s.planned as u64) != n {
-        return false;
-    }
-    files::suits(file, s.head)
+    limits::planned_ok(s.planned)
+        && limits::first_outside(counts, least, s.planned as u64).is_none()
+        && files::suits(file, s.head)
 }
 
 pub fn test_session(
@@ -84,15 +79,11 @@ pub fn loaded_ok(file: File, l: Loaded, lists: &[u64; LISTS]) -> bool
     if !heads::head_ok(l.head, lists) {
         return false;
     }
-    if !limits::maxchunks_ok(l.maxchunks) {
-        return false;
-    }
     let counts = &lists[COUNTS..];
-    let n = l.head.n as usize;
-    if !tables::counts_ok(counts, n, l.head.format, l.maxchunks) {
-        return false;
-    }
-    files::suits(file, l.head)
+    let counts = &counts[..l.head.n as usize];
+    limits::maxchunks_ok(l.maxchunks)
+        && tables::counts_ok(counts, l.head.format, l.maxchunks)
+        && files::suits(file, l.head)
 }
 
 pub fn test_loaded(

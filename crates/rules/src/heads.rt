@@ -1,35 +1,31 @@
 // The rules for the head of a record, with its ranks and sizes.
-ghost use Rattle.std.specs.Prelude.{◌≡◌};
+ghost use Rattle.std.specs.Prelude.{◌≡◌, ◌&&◌, pos};
 ghost use Rattle.format.specs.declared.head.Head.{Head};
-ghost use Rattle.format.specs.Record.{head_sound, no_head};
+ghost use Rattle.format.specs.Limits.{format_rule, blocksize_rule, tasks_rule};
+ghost use Rattle.format.specs.Record.{is_order, head_sound, no_head};
 
 use crate::limits;
 use format::head;
 use format::head::Head;
 
-// Whether the head, the ranks and the sizes of a record keep the rules, whatever they hold; library version and patch level may be any.
+// Whether the numbers of a head keep their rules; library version and patch level may be any.
+fn numbers_ok(h: Head) -> bool
+    ensures { result ≡ (is_order h.order && format_rule (pos h.format) && blocksize_rule (pos h.blocksize) && tasks_rule (pos h.n)) }
+{
+    h.order <= 1
+        && limits::format_ok(h.format)
+        && limits::blocksize_ok(h.blocksize)
+        && limits::tasks_ok(h.n)
+}
+
+// Whether the head, the ranks and the sizes of a record keep the rules, whatever they hold.
 pub fn head_ok(h: Head, lists: &[u64; head::LISTS]) -> bool
     ensures { result ≡ head_sound h lists.now }
 {
-    if 1 < h.order {
-        return false;
-    }
-    if !limits::format_ok(h.format) {
-        return false;
-    }
-    if !limits::blocksize_ok(h.blocksize) {
-        return false;
-    }
-    if !limits::tasks_ok(h.n) {
-        return false;
-    }
     let n = h.n as usize;
     let ranks = &lists[..head::SIZES];
     let sizes = &lists[head::SIZES..head::COUNTS];
-    if !limits::ranks_ok(&ranks[..n]) {
-        return false;
-    }
-    limits::sizes_ok(&sizes[..n])
+    numbers_ok(h) && limits::ranks_ok(&ranks[..n]) && limits::sizes_ok(&sizes[..n])
 }
 
 // The head of the record of zeros that a refusal hands back.

@@ -18,22 +18,15 @@ pub fn format_ok(format: u32) -> bool
 pub fn least_count(format: u32) -> u64
     ensures { result ≡ least_count format }
 {
-    if format == limit::IDLE_FORMAT {
-        return 1;
-    }
-    0
+    if format == limit::IDLE_FORMAT { 1 } else { 0 }
 }
 
 pub fn blocksize_ok(blocksize: u32) -> bool
     ensures { result ≡ blocksize_rule (pos blocksize) }
 {
-    if blocksize < limit::MIN_BLOCKSIZE {
-        return false;
-    }
-    if limit::MAX_BLOCKSIZE < blocksize {
-        return false;
-    }
-    u32::count_ones(blocksize) == 1
+    limit::MIN_BLOCKSIZE <= blocksize
+        && blocksize <= limit::MAX_BLOCKSIZE
+        && u32::count_ones(blocksize) == 1
 }
 
 pub fn tasks_ok(n: u32) -> bool

@@ -20,4 +20,4 @@ pub returns : goal.returns
 returns c =
     let block : blocksize_rule (pos c.args.blocksize) ≡ true = sym c.blocksize_ok.ensures ∙ c.if-not-blocksize_ok.false in
     let fits : within 1 max_size (pos c.args.size) ≡ true = sym c.size_ok.ensures ∙ c.if-not-size_ok.false in
-    ap (counted 0) c.chunk_holds-bytes.ensures ∙ sym (size_given _ _ block fits)
+    ap (counted 0) c.chunk_holds.ensures.holds ∙ sym (size_given _ _ block fits)

@@ -1,39 +1,36 @@
--- The empty part where a test fails, and else the chunk's bytes.
-use mathlib.Core.Path.{sym, ◌∙◌}
+-- The number and the bytes of what `part` answers.
+use mathlib.Core.Path.{◌≡◌, refl, sym, ap, ◌∙◌}
 use Prim.Native.Nat.{ℕ}
-use native.Mathlib.Omega.{arith}
-use borrow.Author.Rules.{rules}
-use Rattle.format.specs.declared.head.File.TheVariants.{Single}
-use Rattle.format.proofs.Refusals.{when_accepted, when_refused}
-use Rattle.format.specs.Reads.{container_of, chunk_refusal, chunk_part}
-use Rattle.format.proofs.Readable.{chunk_readable, chunk_file}
+use lib.ListN.{take, drop}
+use Rattle.std.specs.Prelude.{Ok}
+use Rattle.std.proofs.lemmas.Result.{err_from_is_err_and}
+use Rattle.format.specs.declared.loaded.Place.{Place}
+use Rattle.format.specs.declared.loaded.Part.{Part}
+use Rattle.format.specs.Answers.{part_of}
+use Rattle.format.specs.Reads.{Container, chunk_refusal, chunk_place, chunk_bytes, part_answer}
+use Rattle.format.proofs.Refusals.{number_is, when_accepted}
 use Rattle.chunks.proofs.chunk.Goals as goal
 
-pub returns-then-chunk_refusal-ne0 : goal.returns-then-chunk_refusal-ne0
-unfolding chunk_part
-returns-then-chunk_refusal-ne0 c =
-    let r = c.chunk_refusal in
-    let a = c.args in
-    let refusal : ℕ = chunk_refusal (container_of Single a.l a.lists.now a.image.now a.table.now) a.task a.chunk in
-    sym (when_refused refusal _ _ (omega (arith, r.ensures, c.if-chunk_refusal-ne0.true)))
+module _ (k : Container) (task chunk : ℕ) where
+  number : (part_answer k task chunk).refusal ≡ chunk_refusal k task chunk
+  unfolding part_answer chunk_place
+  number = number_is (chunk_refusal k task chunk) _ _ (λ (p : Part). p.refusal) refl refl
 
-pub chunk_part-requires-clause-readable : goal.chunk_part-requires-clause-readable
-chunk_part-requires-clause-readable c =
-    let passes = sym c.chunk_refusal.ensures ∙ c.if-chunk_refusal-ne0.false in
-    let own = chunk_file _ _ _ passes in
-    let r = chunk_readable _ _ (search rules) _ passes in
-    rw own r.0
+  answer : {p : Part} → p ≡ part_answer k task chunk → p.refusal ≡ chunk_refusal k task chunk
+  answer e = ap (λ (p : Part). p.refusal) e ∙ number
 
-pub chunk_part-requires-clause-le_chunk : goal.chunk_part-requires-clause-le_chunk
-chunk_part-requires-clause-le_chunk c =
-    let passes = sym c.chunk_refusal.ensures ∙ c.if-chunk_refusal-ne0.false in
-    let own = chunk_file _ _ _ passes in
-    let r = chunk_readable _ _ (search rules) _ passes in
-    rw own r.1
+  bytes : (place : Place) → part_of (Ok place) ≡ part_answer k task chunk → take place.length (drop place.start k.image) ≡ chunk_bytes k task chunk
+  unfolding part_answer chunk_place chunk_bytes
+  bytes place e =
+      ap (λ (p : Part). take p.length (drop p.start k.image)) (e ∙ when_accepted (chunk_refusal k task chunk) _ _ (sym (answer e)))
 
-pub returns : goal.returns
-unfolding chunk_part
-returns c =
-    let passes = sym c.chunk_refusal.ensures ∙ c.if-chunk_refusal-ne0.false in
-    let own = chunk_file _ _ _ passes in
-    (rw own at c.chunk_part.ensures) ∙ sym (when_accepted _ _ _ passes)
+pub returns-in_err-place-clause-value : goal.returns-in_err-place-clause-value
+returns-in_err-place-clause-value c =
+    let p = err_from_is_err_and c.from_residual.result c.from_residual.ensures.1 in
+    rw (p.1, p.2) (answer _ _ _ c.in_err-place.ensures.value)
+
+pub returns-clause-value : goal.returns-clause-value
+returns-clause-value c = answer _ _ _ c.in_ok-place.ensures.value
+
+pub returns-clause-bytes : goal.returns-clause-bytes
+returns-clause-bytes c = c.bytes_at.ensures ∙ bytes _ _ _ _ c.in_ok-place.ensures.value

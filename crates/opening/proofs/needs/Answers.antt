@@ -42,12 +42,18 @@ overflow_cast-n c =
     let known : PlanHolds given = plan_holds _ passes in
     omega (arith, known.few_tasks)
 
-pub meta2_end-image-requires : goal.meta2_end-image-requires
-meta2_end-image-requires c =
+pub invariant_of-layout : goal.invariant_of-layout
+invariant_of-layout c =
+    let given : Opening = let a = c.args in opening_of Single a.plan a.ranks.now a.sizes.now a.prefix.now in
+    let passes : first_failing (plan_tests given) ≡ 0 = plan_number given (sym c.in_ok-test_shape.ensures) ∙ sym c.in_ok-test_numbers.ensures in
+    record { sound = plan_sound _ (plan_holds _ passes) }
+
+pub meta2_end-requires : goal.meta2_end-requires
+meta2_end-requires c =
     let given : Opening = let a = c.args in opening_of Single a.plan a.ranks.now a.sizes.now a.prefix.now in
     let passes : first_failing (plan_tests given) ≡ 0 = plan_number given (sym c.in_ok-test_shape.ensures) ∙ sym c.in_ok-test_numbers.ensures in
     let known : PlanHolds given = plan_holds _ passes in
-    (plan_sound _ known, known.few)
+    known.few
 
 pub overflow_mul-result : goal.overflow_mul-result
 overflow_mul-result c =
@@ -60,5 +66,5 @@ pub returns : goal.returns
 returns c =
     let given : Opening = let a = c.args in opening_of Single a.plan a.ranks.now a.sizes.now a.prefix.now in
     let passes : first_failing (plan_tests given) ≡ 0 = plan_number given (sym c.in_ok-test_shape.ensures) ∙ sym c.in_ok-test_numbers.ensures in
-    ap (λ (end : ℕ). record { refusal = 0; image = end; cells = length given.ranks * given.plan.planned }) c.meta2_end-image.ensures
+    ap (λ (end : ℕ). record { refusal = 0; image = end; cells = length given.ranks * given.plan.planned }) c.meta2_end.ensures
     ∙ sym (needs_lengths given passes)

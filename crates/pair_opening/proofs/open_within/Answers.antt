@@ -1,5 +1,5 @@
 -- Refused, nothing is stored; accepted, each file's opening.
-use mathlib.Core.Path.{◌≡◌, sym, ap, ap₂, ◌∙◌}
+use mathlib.Core.Path.{sym, ap, ap₂, ◌∙◌}
 use Prim.Native.Nat.{ℕ, ◌<◌}
 use native.Mathlib.Omega.{arith}
 use lib.ListN.{length}
@@ -52,7 +52,7 @@ begin-one-requires c =
     let a = c.args in
     let o : Opening = opening_of First a.plan0 a.ranks0.now a.sizes0.now a.prefix0.now in
     let o' : Opening = opening_of Second a.plan1 a.ranks1.now a.sizes1.now a.prefix1.now in
-    let zero = sym c.in-Ok.ensures in
+    let zero = sym c.in_default.ensures in
     first_opens o o' _ _ _ _ zero
 
 pub begin-two-requires : goal.begin-two-requires
@@ -60,7 +60,7 @@ begin-two-requires c =
     let a = c.args in
     let o : Opening = opening_of First a.plan0 a.ranks0.now a.sizes0.now a.prefix0.now in
     let o' : Opening = opening_of Second a.plan1 a.ranks1.now a.sizes1.now a.prefix1.now in
-    let zero = sym c.in-Ok.ensures in
+    let zero = sym c.in_default.ensures in
     second_opens o o' _ _ _ _ zero
 
 pub returns-clause-value : goal.returns-clause-value
@@ -68,7 +68,7 @@ returns-clause-value c =
     let a = c.args in
     let o : Opening = opening_of First a.plan0 a.ranks0.now a.sizes0.now a.prefix0.now in
     let o' : Opening = opening_of Second a.plan1 a.ranks1.now a.sizes1.now a.prefix1.now in
-    let zero = sym c.in-Ok.ensures in
+    let zero = sym c.in_default.ensures in
     let first = c.begin-one.ensures.value ∙ opened_answer o a.image0.now a.table0.now (first_opens o o' _ _ _ _ zero) in
     let second = c.begin-two.ensures.value ∙ opened_answer o' a.image1.now a.table1.now (second_opens o o' _ _ _ _ zero) in
     ap₂ (λ (x y : Opened). record { session0 = x.session; lists0 = x.lists; session1 = y.session; lists1 = y.lists; refusal = 0 }) first second
@@ -79,7 +79,7 @@ returns-clause-image1_after c =
     let a = c.args in
     let o : Opening = opening_of First a.plan0 a.ranks0.now a.sizes0.now a.prefix0.now in
     let o' : Opening = opening_of Second a.plan1 a.ranks1.now a.sizes1.now a.prefix1.now in
-    let zero = sym c.in-Ok.ensures in
+    let zero = sym c.in_default.ensures in
     (λ i. (c.begin-one.ensures.image_after i, c.begin-two.ensures.image_after i))
     ∙ sym (accepted_found o o' a.image0.now a.table0.now a.image1.now a.table1.now zero a.budget0 a.budget1)
 
@@ -88,6 +88,6 @@ returns-clause-table1_after c =
     let a = c.args in
     let o : Opening = opening_of First a.plan0 a.ranks0.now a.sizes0.now a.prefix0.now in
     let o' : Opening = opening_of Second a.plan1 a.ranks1.now a.sizes1.now a.prefix1.now in
-    let zero = sym c.in-Ok.ensures in
+    let zero = sym c.in_default.ensures in
     (λ i. (c.begin-one.ensures.table_after i, c.begin-two.ensures.table_after i))
     ∙ sym (accepted_tables o o' a.image0.now a.table0.now a.image1.now a.table1.now zero)

@@ -1,5 +1,5 @@
 -- Each return by the tests that led there.
-use borrow.Author.Tests.{lt-ltb, le-ltb, eq-eqb, ne_eqb}
+use borrow.Author.Tests.{lt-ltb, le-ltb}
 use Rattle.format.specs.Refusals.{first_failing}
 use Rattle.pair_opening.specs.Short.{short_of}
 use Rattle.pair_opening.proofs.test_room.Goals as goal

@@ -1,44 +1,56 @@
 -- Each return by the tests that led there.
-use mathlib.Core.Path.{sym, ◌∙◌}
-use native.Mathlib.Omega.{arith}
-use Rattle.format.proofs.Passing.{head_tasks}
-use Rattle.format.proofs.Stripes.{length_counts}
+use mathlib.Core.Path.{◌≡◌, sym, ◌∙◌}
+use mathlib.Core.Bool.{true}
+use lib.IntN.{pos}
+use lib.ListN.{length, take, get_or}
+use lib.Seq.{length-take-le}
+use Rattle.format.specs.Meta2.{counts_rule}
+use Rattle.format.specs.Record.{counts_of, count_of, head_sound}
 use Rattle.format.specs.Loaded.{loaded_sound}
+use Rattle.records.proofs.Counts.{counted, rule_taken}
 use Rattle.records.proofs.loaded_ok.Goals as goal
+use Rattle.records.proofs.loaded_ok.Goals.{Else-not-head_ok, then-maxchunks_ok, else-maxchunks_ok}
+
+head : (c : Else-not-head_ok) → head_sound c.args.l.head c.args.lists.now ≡ true
+head c = sym c.head_ok.ensures ∙ c.if-not-head_ok.false
 
 pub returns-then-not-head_ok : goal.returns-then-not-head_ok
 unfolding loaded_sound
 returns-then-not-head_ok c = rw (← c.head_ok.ensures, c.if-not-head_ok.true)
 
-pub returns-then-not-maxchunks_ok : goal.returns-then-not-maxchunks_ok
-unfolding loaded_sound
-returns-then-not-maxchunks_ok c = rw (← c.head_ok.ensures, c.if-not-head_ok.false, ← c.maxchunks_ok.ensures, c.if-not-maxchunks_ok.true)
+pub slice_bounds-counts-end-2 : goal.slice_bounds-counts-end-2
+slice_bounds-counts-end-2 c =
+    sym (length-take-le _ _ (counted c.args.l.head c.args.lists.now c.told-lists (head (goal.at.slice_bounds-counts-end-2 c).Else-not-head_ok)))
 
-pub counts_ok-requires : goal.counts_ok-requires
-counts_ok-requires c =
-    omega (arith, head_tasks _ _ (sym c.head_ok.ensures ∙ c.if-not-head_ok.false), length_counts c.args.lists.now c.told-lists)
+-- the counts, where the most chunks are few enough
+rule : (c : Else-not-head_ok) → let a = c.args in
+    counts_rule a.l.head.format (length (take a.l.head.n (counts_of a.lists.now))) a.l.maxchunks (λ i. pos (get_or (take a.l.head.n (counts_of a.lists.now)) i 0))
+    ≡ counts_rule a.l.head.format a.l.head.n a.l.maxchunks (λ i. pos (count_of a.lists.now i))
+rule c = rule_taken c.args.l.head c.args.lists.now c.told-lists (head c) c.args.l.maxchunks
 
-pub returns-then-not-counts_ok : goal.returns-then-not-counts_ok
+pub returns-then-counts_ok : goal.returns-then-counts_ok
 unfolding loaded_sound
-returns-then-not-counts_ok c =
-    rw (
-      ← c.head_ok.ensures,
-      c.if-not-head_ok.false,
-      ← c.maxchunks_ok.ensures,
-      c.if-not-maxchunks_ok.false,
-      ← c.counts_ok.ensures,
-      c.if-not-counts_ok.true,
-    )
+returns-then-counts_ok c =
+    let known = rule (goal.at.returns-then-counts_ok c).Else-not-head_ok in
+    elim c.if-maxchunks_ok.branch [
+      | then-maxchunks_ok w ↦
+          rw (
+            ← c.head_ok.ensures,
+            c.if-not-head_ok.false,
+            ← c.maxchunks_ok.ensures,
+            w.if-maxchunks_ok.true,
+            sym known ∙ sym w.counts_ok.ensures ∙ sym w.value-is ∙ c.if-counts_ok.true,
+          )
+          c.suits.ensures
+      | else-maxchunks_ok w ↦ cc
+    ]
 
-pub returns : goal.returns
+pub returns-else-counts_ok : goal.returns-else-counts_ok
 unfolding loaded_sound
-returns c =
-    rw (
-      ← c.head_ok.ensures,
-      c.if-not-head_ok.false,
-      ← c.maxchunks_ok.ensures,
-      c.if-not-maxchunks_ok.false,
-      ← c.counts_ok.ensures,
-      c.if-not-counts_ok.false,
-    )
-    c.suits.ensures
+returns-else-counts_ok c =
+    let known = rule (goal.at.returns-else-counts_ok c).Else-not-head_ok in
+    rw (c.if-counts_ok.false, ← c.head_ok.ensures, c.if-not-head_ok.false, ← c.maxchunks_ok.ensures)
+    (elim c.if-maxchunks_ok.branch [
+      | then-maxchunks_ok w ↦ rw (w.if-maxchunks_ok.true, sym known ∙ sym w.counts_ok.ensures ∙ sym w.value-is ∙ c.if-counts_ok.false)
+      | else-maxchunks_ok w ↦ rw w.if-maxchunks_ok.false
+    ])

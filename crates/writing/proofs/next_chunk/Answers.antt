@@ -1,4 +1,3 @@
-use mathlib.Core.Path.{◌∙◌}
 use Prim.Native.Nat.{◌+◌}
 use native.Mathlib.Omega.{arith}
 use borrow.Author.Tests.{le-leb, lt-leb}
@@ -7,7 +6,7 @@ use Rattle.writing.proofs.next_chunk.Goals as goal
 
 pub returns-then-planned-begun : goal.returns-then-planned-begun
 unfolding next_chunk
-returns-then-planned-begun c = c.nothing.ensures ∙ rw (lt-leb (c.args.begun + 1) c.args.planned (omega arith))
+returns-then-planned-begun c = rw (lt-leb (c.args.begun + 1) c.args.planned (omega arith))
 
 pub returns : goal.returns
 unfolding next_chunk

@@ -1,52 +1,63 @@
 -- The copy into the unwritten rest of the chunk is one into the whole image.
-use mathlib.Core.Path.{refl, ap}
+use mathlib.Core.Path.{◌≡◌, refl, ap}
 use Prim.Native.Nat.{ℕ, ◌+◌, ◌-◌}
 use native.Mathlib.Omega.{arith}
 use lib.ListN.{length-take, length-drop}
 use Rattle.lists.proofs.Stores.{spends_part, spends_same, found_last}
-use Rattle.format.proofs.Bounds.{sound_size}
-use Rattle.format.specs.Record.{holds, start_of}
+use Rattle.format.specs.Record.{size_of, holds, start_of}
 use Rattle.writing.proofs.put.Goals as goal
+use Rattle.writing.proofs.put.Goals.{After-chunk_start-start, After-chunk_holds}
+
+-- where the chunk starts, and what it holds
+starts : (c : After-chunk_start-start) → c.chunk_start-start.result ≡ start_of c.args.h (size_of c.args.lists.now) c.args.task c.args.spot.chunk
+unfolding start_of
+starts c = let l = c.of-layout.ensures in rw (l.n, l.blocksize, l.sizes) at c.chunk_start-start.ensures
+
+held : (c : After-chunk_holds) → c.chunk_holds.result ≡ holds c.args.h (size_of c.args.lists.now) (c.args.task - 1)
+unfolding holds
+held c = let l = c.of-layout.ensures in rw (l.blocksize, l.sizes) at c.chunk_holds.ensures
 
 pub overflow_add-free : goal.overflow_add-free
-unfolding start_of holds
-overflow_add-free c = let p = c.requires in omega (arith, c.chunk_start-start.ensures, p.fits, p.inside)
-
-pub chunk_holds-requires : goal.chunk_holds-requires
-chunk_holds-requires c =
-    (c.requires.sound.block, (sound_size c.requires.sound (c.args.task - 1) (omega (arith, c.requires.first_task, c.requires.last_task))).1)
+overflow_add-free c =
+    omega (arith, starts (goal.at.overflow_add-free c).After-chunk_start-start, c.requires.fits, c.requires.inside)
 
 pub overflow_add-end : goal.overflow_add-end
-unfolding start_of holds
-overflow_add-end c = omega (arith, c.chunk_holds.ensures, c.chunk_start-start.ensures, c.requires.inside)
+overflow_add-end c =
+    let at = goal.at.overflow_add-end c in
+    omega (arith, starts at.After-chunk_start-start, held at.After-chunk_holds, c.requires.fits, c.requires.inside)
 
 pub slice_bounds-copy_within-start : goal.slice_bounds-copy_within-start
-unfolding start_of holds
-slice_bounds-copy_within-start c = omega (arith, c.chunk_holds.ensures, c.chunk_start-start.ensures, c.requires.fits, c.requires.inside)
+slice_bounds-copy_within-start c =
+    let at = goal.at.slice_bounds-copy_within-start c in
+    omega (arith, starts at.After-chunk_start-start, held at.After-chunk_holds, c.requires.fits, c.requires.inside)
 
 pub slice_bounds-copy_within-end : goal.slice_bounds-copy_within-end
-unfolding start_of holds
-slice_bounds-copy_within-end c = omega (arith, c.chunk_holds.ensures, c.chunk_start-start.ensures, c.requires.fits, c.requires.inside)
+slice_bounds-copy_within-end c =
+    let at = goal.at.slice_bounds-copy_within-end c in
+    omega (arith, starts at.After-chunk_start-start, held at.After-chunk_holds, c.requires.fits, c.requires.inside)
 
 pub slice_bounds-copy_within-count : goal.slice_bounds-copy_within-count
-unfolding holds
-slice_bounds-copy_within-count c = omega (arith, c.chunk_holds.ensures, c.requires.fits)
+slice_bounds-copy_within-count c =
+    let at = goal.at.slice_bounds-copy_within-count c in
+    omega (arith, starts at.After-chunk_start-start, held at.After-chunk_holds, c.requires.fits, c.requires.inside)
 
 pub copy_within-requires : goal.copy_within-requires
-unfolding start_of holds
 copy_within-requires c =
-    simp (length-take, length-drop) (omega (arith, c.chunk_holds.ensures, c.chunk_start-start.ensures, c.requires.fits, c.requires.inside))
+    let at = goal.at.copy_within-requires c in
+    simp (length-take, length-drop) (omega (arith, starts at.After-chunk_start-start, held at.After-chunk_holds, c.requires.fits, c.requires.inside))
 
 pub returns : goal.returns
-unfolding start_of holds
 returns c =
+    let at = goal.at.returns c in
     let p = c.requires in
     let a = c.args in
     let from : ℕ = c.chunk_start-start.result in
     let end : ℕ = from + c.chunk_holds.result in
+    let start_is = starts at.After-chunk_start-start in
+    let held_is = held at.After-chunk_holds in
     found_last
-    (spends_same (ap (λ (x : ℕ). x + a.from) c.chunk_start-start.ensures) refl
-    (spends_part a.budget a.image.now (from + a.from) (end - (from + a.from)) a.bytes.now
-    (omega (arith, c.chunk_holds.ensures, p.fits))
-    (omega (arith, c.chunk_holds.ensures, c.chunk_start-start.ensures, p.fits, p.inside))
+    (spends_same (ap (λ (x : ℕ). x + a.spot.from) start_is) refl
+    (spends_part a.budget a.image.now (from + a.spot.from) (end - (from + a.spot.from)) a.bytes.now
+    (omega (arith, held_is, p.fits))
+    (omega (arith, held_is, start_is, p.fits, p.inside))
     c.copy_within.ensures))

@@ -1,21 +1,20 @@
 -- What the decision says is stored, and nothing else.
-use mathlib.Core.Path.{sym, ap, ap₂, ◌∙◌}
+use mathlib.Core.Path.{◌≡◌, sym, ap₂, ◌∙◌}
 use mathlib.Core.List.{List}
-use Prim.Native.Nat.{ℕ, ◌-◌, ◌*◌, ◌≤◌}
-use native.Mathlib.Nat.{mul-le-mul}
+use Prim.Native.Nat.{ℕ, ◌-◌}
 use native.Mathlib.Omega.{arith}
 use lib.IntN.{ℤ}
 use lib.ListN.{set}
 use mir.Facts.{to_z-of_z}
 use mir.Syntax.{w64}
 use borrow.Author.Rules.{sfits_of}
-use Rattle.format.specs.Limits.{max_tasks, max_blocks}
+use Rattle.std.proofs.lemmas.Result.{err_from_is_err_and}
 use Rattle.format.specs.Meta2.{value_index}
-use Rattle.writing.specs.declared.Decision.{Decision}
 use Rattle.format.specs.Record.{file_in}
 use Rattle.format.specs.Session.{State, state_of, with_count}
-use Rattle.format.specs.Write.{Request, request_of}
+use Rattle.format.specs.Write.{Request, Spot, request_of}
 use Rattle.format.proofs.Storing.{found_kept}
+use Rattle.writing.specs.Writing.{to, decision}
 use Rattle.writing.proofs.Decisions.{not_stored}
 use Rattle.writing.proofs.Puts.{Puts, puts}
 use Rattle.writing.proofs.request.Goals as goal
@@ -28,123 +27,111 @@ lent s = let a = s.args in state_of (file_in a.s.head) a.s a.lists.now a.image.n
 abbrev asked : Start → Request
 asked s = request_of s.args.task s.args.bytes.now
 
-pub returns-then-chunk-eq0-clause-value : goal.returns-then-chunk-eq0-clause-value
-returns-then-chunk-eq0-clause-value c =
-    let s : Start = (goal.at.returns-then-chunk-eq0-clause-value c).Start in
-    let none = not_stored (lent s) (asked s) (sym (ap (λ (x : Decision). x.chunk) c.decide-d.ensures) ∙ c.if-chunk-eq0.true) in
-    ap (λ (x : Decision). x.refusal) c.decide-d.ensures ∙ sym none.0
+-- where the bytes go
+known : (s : Start) (d : Spot) → to d ≡ decision (lent s) (asked s) → Puts (lent s) (asked s) d
+known s d e = puts (lent s) (asked s) d s.told-lists e
 
-pub returns-then-chunk-eq0-clause-table_after : goal.returns-then-chunk-eq0-clause-table_after
-returns-then-chunk-eq0-clause-table_after c =
-    let s : Start = (goal.at.returns-then-chunk-eq0-clause-table_after c).Start in
-    let none = not_stored (lent s) (asked s) (sym (ap (λ (x : Decision). x.chunk) c.decide-d.ensures) ∙ c.if-chunk-eq0.true) in
-    sym (found_kept (lent s) (asked s) c.args.budget none.1)
+pub returns-in_err-spot-clause-value : goal.returns-in_err-spot-clause-value
+returns-in_err-spot-clause-value c =
+    let s : Start = (goal.at.returns-in_err-spot-clause-value c).Start in
+    let p = err_from_is_err_and c.from_residual.result c.from_residual.ensures.1 in
+    rw (p.1, p.2) (not_stored (lent s) (asked s) _ c.in_err-spot.ensures).0
+
+pub returns-in_err-spot-clause-table_after : goal.returns-in_err-spot-clause-table_after
+returns-in_err-spot-clause-table_after c =
+    let s : Start = (goal.at.returns-in_err-spot-clause-table_after c).Start in
+    sym (found_kept (lent s) (asked s) c.args.budget (not_stored (lent s) (asked s) _ c.in_err-spot.ensures).1)
+
+pub returns-in_default-clause-value : goal.returns-in_default-clause-value
+returns-in_default-clause-value c =
+    let s : Start = (goal.at.returns-in_default-clause-value c).Start in
+    (not_stored (lent s) (asked s) 0 (rw c.in_default.is at c.in_ok-spot.ensures)).0
+
+pub returns-in_default-clause-table_after : goal.returns-in_default-clause-table_after
+returns-in_default-clause-table_after c =
+    let s : Start = (goal.at.returns-in_default-clause-table_after c).Start in
+    sym (found_kept (lent s) (asked s) c.args.budget (not_stored (lent s) (asked s) 0 (rw c.in_default.is at c.in_ok-spot.ensures)).1)
 
 pub overflow_sub-i : goal.overflow_sub-i
 overflow_sub-i c =
     let s : Start = (goal.at.overflow_sub-i c).Start in
-    let known : Puts (lent s) (asked s) c.decide-d.result = puts (lent s) (asked s) c.decide-d.result c.requires.lists_len c.decide-d.ensures c.if-chunk-eq0.false in
-    known.there.first_task
+    (known s _ (rw c.in-Some.is at c.in_ok-spot.ensures)).there.first_task
+
+pub overflow_sub-at : goal.overflow_sub-at
+overflow_sub-at c =
+    let s : Start = (goal.at.overflow_sub-at c).Start in
+    (known s _ (rw c.in-Some.is at c.in_ok-spot.ensures)).there.first_chunk
 
 pub overflow_mul-at : goal.overflow_mul-at
 overflow_mul-at c =
     let s : Start = (goal.at.overflow_mul-at c).Start in
-    let known : Puts (lent s) (asked s) c.decide-d.result = puts (lent s) (asked s) c.decide-d.result c.requires.lists_len c.decide-d.ensures c.if-chunk-eq0.false in
-    let small : let a = c.args in
-    ((c.decide-d.result.chunk - 1) * a.s.head.n ≤ max_blocks * max_tasks) × (1 ≤ a.task) × (a.task ≤ max_tasks) = let t = known.there in
-    let few : c.decide-d.result.chunk - 1 ≤ max_blocks = omega (arith, t.few) in
-    (mul-le-mul few t.sound.tasks, t.first_task, omega (arith, t.last_task, t.sound.tasks)) in
-    omega (arith, small)
+    let k = known s _ (rw c.in-Some.is at c.in_ok-spot.ensures) in
+    omega (arith, k.small, k.row_small, k.task_small, k.there.first_task)
 
 pub overflow_add-at : goal.overflow_add-at
 overflow_add-at c =
     let s : Start = (goal.at.overflow_add-at c).Start in
-    let known : Puts (lent s) (asked s) c.decide-d.result = puts (lent s) (asked s) c.decide-d.result c.requires.lists_len c.decide-d.ensures c.if-chunk-eq0.false in
-    let small : let a = c.args in
-    ((c.decide-d.result.chunk - 1) * a.s.head.n ≤ max_blocks * max_tasks) × (1 ≤ a.task) × (a.task ≤ max_tasks) = let t = known.there in
-    let few : c.decide-d.result.chunk - 1 ≤ max_blocks = omega (arith, t.few) in
-    (mul-le-mul few t.sound.tasks, t.first_task, omega (arith, t.last_task, t.sound.tasks)) in
-    omega (arith, small)
+    let k = known s _ (rw c.in-Some.is at c.in_ok-spot.ensures) in
+    omega (arith, k.small, k.row_small, k.task_small, k.there.first_task)
 
 pub put-requires : goal.put-requires
 put-requires c =
     let s : Start = (goal.at.put-requires c).Start in
-    let known : Puts (lent s) (asked s) c.decide-d.result = puts (lent s) (asked s) c.decide-d.result c.requires.lists_len c.decide-d.ensures c.if-chunk-eq0.false in
-    known.there
+    (known s _ (rw c.in-Some.is at c.in_ok-spot.ensures)).there
 
-pub overflow_add-d : goal.overflow_add-d
-overflow_add-d c =
-    let s : Start = (goal.at.overflow_add-d c).Start in
-    let known : Puts (lent s) (asked s) c.decide-d.result = puts (lent s) (asked s) c.decide-d.result c.requires.lists_len c.decide-d.ensures c.if-chunk-eq0.false in
-    omega (arith, known.small)
+pub overflow_add-spot : goal.overflow_add-spot
+overflow_add-spot c =
+    let s : Start = (goal.at.overflow_add-spot c).Start in
+    let k = known s _ (rw c.in-Some.is at c.in_ok-spot.ensures) in
+    omega (arith, k.small, k.row_small, k.task_small, k.there.first_task)
 
 pub cell_of-requires : goal.cell_of-requires
 cell_of-requires c =
     let s : Start = (goal.at.cell_of-requires c).Start in
-    let known : Puts (lent s) (asked s) c.decide-d.result = puts (lent s) (asked s) c.decide-d.result c.requires.lists_len c.decide-d.ensures c.if-chunk-eq0.false in
-    omega (arith, known.small)
+    (known s _ (rw c.in-Some.is at c.in_ok-spot.ensures)).small
 
 pub offset_bounds-table-at : goal.offset_bounds-table-at
 offset_bounds-table-at c =
     let s : Start = (goal.at.offset_bounds-table-at c).Start in
-    let known : Puts (lent s) (asked s) c.decide-d.result = puts (lent s) (asked s) c.decide-d.result c.requires.lists_len c.decide-d.ensures c.if-chunk-eq0.false in
-    let small : let a = c.args in
-    ((c.decide-d.result.chunk - 1) * a.s.head.n ≤ max_blocks * max_tasks) × (1 ≤ a.task) × (a.task ≤ max_tasks) = let t = known.there in
-    let few : c.decide-d.result.chunk - 1 ≤ max_blocks = omega (arith, t.few) in
-    (mul-le-mul few t.sound.tasks, t.first_task, omega (arith, t.last_task, t.sound.tasks)) in
-    omega (arith, small)
+    let k = known s _ (rw c.in-Some.is at c.in_ok-spot.ensures) in
+    omega (arith, k.small, k.row_small, k.task_small, k.there.first_task)
 
 pub bounds-table-at : goal.bounds-table-at
 bounds-table-at c =
     let s : Start = (goal.at.bounds-table-at c).Start in
-    let known : Puts (lent s) (asked s) c.decide-d.result = puts (lent s) (asked s) c.decide-d.result c.requires.lists_len c.decide-d.ensures c.if-chunk-eq0.false in
-    known.listed
+    (known s _ (rw c.in-Some.is at c.in_ok-spot.ensures)).listed
 
 pub overflow_add-lists : goal.overflow_add-lists
 overflow_add-lists c =
     let s : Start = (goal.at.overflow_add-lists c).Start in
-    let known : Puts (lent s) (asked s) c.decide-d.result = puts (lent s) (asked s) c.decide-d.result c.requires.lists_len c.decide-d.ensures c.if-chunk-eq0.false in
-    let small : let a = c.args in
-    ((c.decide-d.result.chunk - 1) * a.s.head.n ≤ max_blocks * max_tasks) × (1 ≤ a.task) × (a.task ≤ max_tasks) = let t = known.there in
-    let few : c.decide-d.result.chunk - 1 ≤ max_blocks = omega (arith, t.few) in
-    (mul-le-mul few t.sound.tasks, t.first_task, omega (arith, t.last_task, t.sound.tasks)) in
-    omega (arith, small)
+    let k = known s _ (rw c.in-Some.is at c.in_ok-spot.ensures) in
+    omega (arith, k.small, k.row_small, k.task_small, k.there.first_task)
 
 pub offset_bounds-lists-i : goal.offset_bounds-lists-i
 offset_bounds-lists-i c =
     let s : Start = (goal.at.offset_bounds-lists-i c).Start in
-    let known : Puts (lent s) (asked s) c.decide-d.result = puts (lent s) (asked s) c.decide-d.result c.requires.lists_len c.decide-d.ensures c.if-chunk-eq0.false in
-    let small : let a = c.args in
-    ((c.decide-d.result.chunk - 1) * a.s.head.n ≤ max_blocks * max_tasks) × (1 ≤ a.task) × (a.task ≤ max_tasks) = let t = known.there in
-    let few : c.decide-d.result.chunk - 1 ≤ max_blocks = omega (arith, t.few) in
-    (mul-le-mul few t.sound.tasks, t.first_task, omega (arith, t.last_task, t.sound.tasks)) in
-    omega (arith, small)
+    let k = known s _ (rw c.in-Some.is at c.in_ok-spot.ensures) in
+    omega (arith, k.small, k.row_small, k.task_small, k.there.first_task)
 
 pub bounds-lists-i : goal.bounds-lists-i
 bounds-lists-i c =
     let s : Start = (goal.at.bounds-lists-i c).Start in
-    let known : Puts (lent s) (asked s) c.decide-d.result = puts (lent s) (asked s) c.decide-d.result c.requires.lists_len c.decide-d.ensures c.if-chunk-eq0.false in
-    let small : let a = c.args in
-    ((c.decide-d.result.chunk - 1) * a.s.head.n ≤ max_blocks * max_tasks) × (1 ≤ a.task) × (a.task ≤ max_tasks) = let t = known.there in
-    let few : c.decide-d.result.chunk - 1 ≤ max_blocks = omega (arith, t.few) in
-    (mul-le-mul few t.sound.tasks, t.first_task, omega (arith, t.last_task, t.sound.tasks)) in
-    omega (arith, small, c.requires.lists_len)
+    let k = known s _ (rw c.in-Some.is at c.in_ok-spot.ensures) in
+    omega (arith, k.small, k.row_small, k.task_small, k.there.first_task)
 
 pub returns-clause-value : goal.returns-clause-value
 returns-clause-value c =
     let s : Start = (goal.at.returns-clause-value c).Start in
-    let known : Puts (lent s) (asked s) c.decide-d.result = puts (lent s) (asked s) c.decide-d.result c.requires.lists_len c.decide-d.ensures c.if-chunk-eq0.false in
-    sym known.accepted
+    sym (known s _ (rw c.in-Some.is at c.in_ok-spot.ensures)).accepted
 
 pub returns-clause-table_after : goal.returns-clause-table_after
 returns-clause-table_after c =
     let s : Start = (goal.at.returns-clause-table_after c).Start in
-    let known : Puts (lent s) (asked s) c.decide-d.result = puts (lent s) (asked s) c.decide-d.result c.requires.lists_len c.decide-d.ensures c.if-chunk-eq0.false in
     let a = c.args in
-    let chunk : ℕ = c.decide-d.result.chunk in
+    let chunk : ℕ = c.in-Some.spot.chunk in
     let written = to_z-of_z {w = w64} (sfits_of c.cell_of.type_inv) ∙ c.cell_of.ensures in
     ap₂ (λ (image : List ℕ) (value : ℤ).
     state_of (file_in a.s.head) a.s (with_count a.lists.now (a.task - 1) chunk) image
     (set a.table.now (value_index a.s.head.n (chunk - 1) (a.task - 1)) value))
     c.put.ensures written
-    ∙ sym (known.leaves a.budget)
+    ∙ sym ((known s _ (rw c.in-Some.is at c.in_ok-spot.ensures)).leaves a.budget)

@@ -7,6 +7,6 @@ pub returns-then-format-eq-IDLE_FORMAT : goal.returns-then-format-eq-IDLE_FORMAT
 unfolding least_count
 returns-then-format-eq-IDLE_FORMAT c = rw (eq-eqb c.args.format idle_format c.if-format-eq-IDLE_FORMAT.true)
 
-pub returns : goal.returns
+pub returns-else-format-eq-IDLE_FORMAT : goal.returns-else-format-eq-IDLE_FORMAT
 unfolding least_count
-returns c = rw (ne_eqb c.args.format idle_format c.if-format-eq-IDLE_FORMAT.false)
+returns-else-format-eq-IDLE_FORMAT c = rw (ne_eqb c.args.format idle_format c.if-format-eq-IDLE_FORMAT.false)
