@@ -3,9 +3,8 @@
 #![tactic(auto)]
 
 ghost use Rattle.std.specs.Prelude.{◌≡◌};
-ghost use Rattle.format.specs.Record.{no_lists};
 ghost use Rattle.pairs.specs.Load.{pair_checked, pair_loaded, pair_load_tables};
-ghost use Rattle.pair_loading.specs.Answers.{pair_loaded_of};
+ghost use Rattle.pair_loading.specs.Answers.{refused_pair, pair_loaded_of};
 
 use format::fault::{Broken, Fault};
 use format::head::{File, Head, LISTS};
@@ -15,14 +14,14 @@ use pairs::PairLoaded;
 
 // What is broken, and in which file.
 #[derive(Clone, Copy)]
-struct PairBroken {
-    file: u32,
-    broken: Broken,
+pub struct PairBroken {
+    pub file: u32,
+    pub broken: Broken,
 }
 
-// Both images judged, for tables of so many cells: all tests of file 0, then all of file 1, then 25. Where they pass, both records are handed back,
-// and lists of zeros are their lists.
-fn judge(
+// Both images judged, for tables of so many cells: all tests of file 0, then all of file 1, then 25; no table is touched. Where they pass, both
+// records are handed back, and the lists that are lent are theirs.
+pub fn judge(
     image0: &[u8],
     cells0: usize,
     lists0: &mut [u64; LISTS],
@@ -30,7 +29,6 @@ fn judge(
     cells1: usize,
     lists1: &mut [u64; LISTS],
 ) -> Result<(Loaded, Loaded), PairBroken>
-    requires { (lists0.old ≡ no_lists) × (lists1.old ≡ no_lists) }
     ensures { pair_loaded_of result lists0.new lists1.new ≡ pair_checked image0.now image1.now cells0 cells1 }
 {
     let loaded0 = loading::judge(File::First, image0, cells0, lists0).map_err(|broken| PairBroken {
@@ -52,52 +50,28 @@ fn judge(
     Ok((loaded0, loaded1))
 }
 
-// What C is handed: both records and their lists, or what is broken, beside two records of zeros marked closed.
-fn handed(
-    answer: Result<(Loaded, Loaded), PairBroken>,
-    lists0: [u64; LISTS],
-    lists1: [u64; LISTS],
-) -> PairLoaded
-    ensures { result ≡ pair_loaded_of answer lists0 lists1 }
+// What is broken and in which file, beside two records of zeros marked closed.
+fn no_pair(file: u32, broken: Broken) -> PairLoaded
+    ensures { result ≡ refused_pair file broken }
 {
     let none = Loaded {
         head: Head::default(),
         maxchunks: 0,
         closed: 1,
     };
-    match answer {
-        Ok((loaded0, loaded1)) => PairLoaded {
-            loaded0,
-            lists0,
-            loaded1,
-            lists1,
-            refusal: 0,
-            file: 0,
-            fault: Fault::default(),
-        },
-        Err(PairBroken { file, broken }) => PairLoaded {
-            loaded0: none,
-            lists0: [0; LISTS],
-            loaded1: none,
-            lists1: [0; LISTS],
-            refusal: broken.refusal.number(),
-            file,
-            fault: broken.fault,
-        },
+    PairLoaded {
+        loaded0: none,
+        lists0: [0; LISTS],
+        loaded1: none,
+        lists1: [0; LISTS],
+        refusal: broken.refusal.number(),
+        file,
+        fault: broken.fault,
     }
 }
 
-// Checks both images, for tables of so many cells; no table is touched.
-pub fn check(image0: &[u8], cells0: usize, image1: &[u8], cells1: usize) -> PairLoaded
-    ensures { result ≡ pair_checked image0.now image1.now cells0 cells1 }
-{
-    let mut lists0 = [0; LISTS];
-    let mut lists1 = [0; LISTS];
-    let answer = judge(image0, cells0, &mut lists0, image1, cells1, &mut lists1);
-    handed(answer, lists0, lists1)
-}
-
-// Checks a pair. Accepted, both records are handed back, and of each table the first n times maxchunks cells are filled.
+// Judges a pair. Accepted, both records are handed back, and of each table the first n times maxchunks cells are filled; refused, what is broken is,
+// beside two records of zeros marked closed.
 pub fn load(image0: &[u8], table0: &mut [i64], image1: &[u8], table1: &mut [i64]) -> PairLoaded
     ensures value { result ≡ pair_loaded image0.now image1.now table0.old table1.old }
     ensures table1_after { (table0.new, table1.new) ≡ pair_load_tables image0.now image1.now table0.old table1.old }
@@ -105,10 +79,20 @@ pub fn load(image0: &[u8], table0: &mut [i64], image1: &[u8], table1: &mut [i64]
     let mut lists0 = [0; LISTS];
     let mut lists1 = [0; LISTS];
     let (cells0, cells1) = (table0.len(), table1.len());
-    let answer = judge(image0, cells0, &mut lists0, image1, cells1, &mut lists1);
-    if let Ok((loaded0, loaded1)) = answer {
-        loading::fill(image0, loaded0, &lists0, table0);
-        loading::fill(image1, loaded1, &lists1, table1);
+    match judge(image0, cells0, &mut lists0, image1, cells1, &mut lists1) {
+        Ok((loaded0, loaded1)) => {
+            loading::fill(image0, loaded0, &lists0, table0);
+            loading::fill(image1, loaded1, &lists1, table1);
+            PairLoaded {
+                loaded0,
+                lists0,
+                loaded1,
+                lists1,
+                refusal: 0,
+                file: 0,
+                fault: Fault::default(),
+            }
+        }
+        Err(PairBroken { file, broken }) => no_pair(file, broken),
     }
-    handed(answer, lists0, lists1)
 }
