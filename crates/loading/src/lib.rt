@@ -18,20 +18,20 @@ use format::refusal::Refusal;
 use layout::Layout;
 
 // An image judged as the file that the call means, tests 1 to 12, 18 and 13 in the order of document 01, for a table of so many cells, which is not
-// touched. Where they pass, the record is handed back, and lists of zeros are its lists.
+// touched. Where they pass, the record is handed back, and the lent lists are its lists.
 pub fn judge(
     file: File,
     image: &[u8],
     cells: usize,
     lists: &mut [u64; LISTS],
 ) -> Result<Loaded, Broken>
-    requires { lists.old ≡ no_lists }
     ensures verdict { judged result ≡ verdict (load_tests file image.now cells) }
     ensures loaded { IfOk result (λ loaded. loaded ≡ loaded_in image.now) }
     ensures lists_after { OnOk result (lists.new ≡ lists_in image.now) }
 {
     let len = image.len() as u64;
     let head = front::judge_fixed(file, image, len)?;
+    lists.fill(0);
     let last = meta1::judge_lists(image, len, head, lists)?;
     let maxchunks = last.maxchunks;
     let (cells, needed) = (cells as u64, head.n as u64 * maxchunks as u64);

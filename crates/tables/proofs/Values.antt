@@ -1,7 +1,7 @@
 -- What a value's bits say of its rule, against their top bit and a mask of all ones or none, and the number that a value is.
-use Rattle.std.proofs.Common.{◌≡◌, ℕ, zero, suc, ◌+◌, ◌-◌, ◌/◌, ◌%◌, ◌^◌, ◌<◌, Bool, true, false, cond, ◌&&◌, T, ltb, leb, ℤ, pos, negsuc, nat_abs, sym, refl, ap, ◌∙◌, ap₂, zero-le, mod-eq_of_lt, arith, w64, Fits, SFits, ltb-false, ltb-true, le-ltb, lt-ltb, ne_eqb, le-leb, leb-false, leb-true}
+use Rattle.std.proofs.Common.{◌≡◌, ℕ, zero, suc, ◌+◌, ◌-◌, ◌/◌, ◌%◌, ◌^◌, ◌<◌, Bool, true, false, cond, ◌&&◌, T, ltb, leb, ℤ, pos, negsuc, nat_abs, sym, refl, ◌∙◌, ap₂, zero-le, mod-eq_of_lt, arith, w64, Fits, SFits, ltb-false, ltb-true, le-ltb, lt-ltb, ne_eqb, le-leb, leb-false, leb-true}
 use borrow.Author.Tests.{lt-leb}
-use lib.Bits.{bit_and, bit_or, bit_xor, or_lt, or_add_and, and_le_l, and_le_r, and_mask, and_zero_l, and_zero_r, and_shr, xor_add_and, xor_self, xor_zero_l, xor_zero_r}
+use lib.Bits.{bit_and, bit_or, bit_xor, or_lt, or_add_and, and_le_l, and_le_r, and_mask, and_zero_l, and_zero_r, and_shr, xor_add_and, xor_zero_r}
 use lib.Signed.{lt_z, non_neg, mag}
 use Rattle.endian.specs.Signed.{bits_of}
 use Rattle.format.specs.Meta2.{value_rule}
@@ -36,6 +36,13 @@ and_all b l = and_mask b 64 ∙ mod-eq_of_lt l
 xor_all : (b : ℕ) → b < 2 ^ 64 → bit_xor b ones ≡ ones - b
 xor_all b l = omega (arith, xor_add_and b ones, and_all b l)
 
+-- the machine's difference of two words, with the second added again
+pub sub_wraps : (a b : ℕ) → a < 2 ^ 64 → b < 2 ^ 64 → ((a + (2 ^ 64 - b)) % 2 ^ 64 + b) % 2 ^ 64 ≡ a
+sub_wraps a b l m = omega arith
+
+pub sub_small : (a b : ℕ) → (a + (2 ^ 64 - b)) % 2 ^ 64 < 2 ^ 64
+sub_small a b = omega arith
+
 -- a number that wraps to 0 with a bit added
 bit_none : (r : ℕ) → r < 2 ^ 64 → (r + 0) % 2 ^ 64 ≡ 0 → r ≡ 0
 bit_none r l e = omega arith
@@ -44,13 +51,16 @@ bit_one : (r : ℕ) → r < 2 ^ 64 → (r + 1) % 2 ^ 64 ≡ 0 → r ≡ ones
 bit_one r l e = omega arith
 
 -- chunk k + 1 is not used where the count has no top bit, and the count less k + 1, which wraps, has it; the mask is 0 less that bit
+pub top_small : (d e : ℕ) → d < 2 ^ 64 → bit_and d e / 2 ^ 63 < 2 ^ 64
+top_small d e l = omega (arith, and_le_l d e)
+
 pub mask_is : (count k d r : ℕ) → k < 2 ^ 63 → count < 2 ^ 64 → d < 2 ^ 64 → (d + (k + 1)) % 2 ^ 64 ≡ count → r < 2 ^ 64
-    → (r + bit_and d (bit_xor count ones) / 2 ^ 63) % 2 ^ 64 ≡ 0 → r ≡ cond (ltb k count) 0 ones
+    → (r + bit_and d (ones - count) / 2 ^ 63) % 2 ^ 64 ≡ 0 → r ≡ cond (ltb k count) 0 ones
 mask_is count k d r small hc hd e hr f = go (ltb k count) refl (ltb count (2 ^ 63)) refl
   where
     -- the bit, where the top bits of d and of the count turned round are x and y
-    bit : (x y : ℕ) → d / 2 ^ 63 ≡ x → (ones - count) / 2 ^ 63 ≡ y → bit_and d (bit_xor count ones) / 2 ^ 63 ≡ bit_and x y
-    bit x y p q = and_shr d (bit_xor count ones) 63 ∙ ap₂ bit_and p (ap (λ (n : ℕ). n / 2 ^ 63) (xor_all count hc) ∙ q)
+    bit : (x y : ℕ) → d / 2 ^ 63 ≡ x → (ones - count) / 2 ^ 63 ≡ y → bit_and d (ones - count) / 2 ^ 63 ≡ bit_and x y
+    bit x y p q = and_shr d (ones - count) 63 ∙ ap₂ bit_and p q
 
     go : (u : Bool) → ltb k count ≡ u → (p : Bool) → ltb count (2 ^ 63) ≡ p → r ≡ cond u 0 ones
     go true g true h =
@@ -79,9 +89,9 @@ module _ (holds : ℕ) (small : holds < 2 ^ 63) where
       lt-leb (ones - bits_of 63 (negsuc (suc n))) 0 (omega arith) ∙ sym (ne_eqb (suc n) 0 (λ e. omega arith))
 
   pub masked : (used : Bool) (z : ℤ) {bits m : ℕ} → mag z < 2 ^ 63 → bits ≡ bits_of 63 z → bits < 2 ^ 64 → m ≡ cond used 0 ones
-      → leb (bit_xor bits m) (bit_and holds (bit_xor m ones)) ≡ value_rule used holds z
-  masked true z l f b e = rw (e, xor_zero_r, xor_zero_l, and_all holds (omega arith), f) (used_bits z l)
-  masked false z {bits} l f b e = rw (e, xor_self, and_zero_r, xor_all bits b, f) (unused_bits z l)
+      → leb (bit_xor bits m) (bit_and holds (ones - m)) ≡ value_rule used holds z
+  masked true z l f b e = rw (e, xor_zero_r, and_all holds (omega arith), f) (used_bits z l)
+  masked false z {bits} l f b e = rw (e, and_zero_r, xor_all bits b, f) (unused_bits z l)
 
 -- a value that is not negative is a number without a sign
 pub value_casts : (z : ℤ) → SFits w64 z → lt_z z (pos 0) ≡ false → T (non_neg z) × Fits w64 (nat_abs z)

@@ -43,7 +43,7 @@ fn over(bad: u64, holds: u64, bits: u64) -> u64
     requires { holds < 2 ^ 63 }
     ensures { nat_lt result (2 ^ 63) ≡ (nat_lt bad (2 ^ 63) && nat_le bits holds) }
 {
-    bad | bits | std::num::wrapping_sub_u64(holds, bits)
+    bad | bits | holds.wrapping_sub(bits)
 }
 
 // 0 where a task of so many chunks uses chunk k + 1, else all ones.
@@ -51,9 +51,9 @@ fn unused_mask(count: u64, k: u64) -> u64
     requires { k < 2 ^ 63 }
     ensures { result ≡ (if ltb k count then 0 else 18446744073709551615) }
 {
-    let under = std::num::wrapping_sub_u64(count, k + 1);
-    let bit = (under & (count ^ u64::MAX)) >> 63;
-    std::num::wrapping_sub_u64(0, bit)
+    let under = count.wrapping_sub(k + 1);
+    let bit = (under & !count) >> 63;
+    0u64.wrapping_sub(bit)
 }
 
 // `bad`, with its top bit set if the value breaks its rule: at most what the chunk holds, and -1 where it is not used. There is no branch, so
@@ -63,7 +63,7 @@ fn value_bad(bad: u64, count: u64, k: u64, holds: u64, value: i64) -> u64
     ensures { nat_lt result (2 ^ 63) ≡ (nat_lt bad (2 ^ 63) && value_rule (nat_lt k count) holds value) }
 {
     let unused = unused_mask(count, k);
-    let most = holds & (unused ^ u64::MAX);
+    let most = holds & !unused;
     over(bad, most, sign::bits64(value) ^ unused)
 }
 

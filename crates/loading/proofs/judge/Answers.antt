@@ -28,7 +28,7 @@ returns-in_err-head-clause-verdict c =
     handed_on _ _ c.from_residual.ensures.1 ∙ at_fixed c.args.file c.args.image.now c.args.cells _ c.in_err-head.ensures.verdict
 
 pub judge_lists-requires : goal.judge_lists-requires
-judge_lists-requires c = (read (goal.at.judge_lists-requires c).In_ok-head, c.requires)
+judge_lists-requires c = (read (goal.at.judge_lists-requires c).In_ok-head, search rules)
 
 pub returns-in_err-last-clause-verdict : goal.returns-in_err-last-clause-verdict
 returns-in_err-last-clause-verdict c =
