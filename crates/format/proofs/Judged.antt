@@ -1,5 +1,5 @@
--- What code answers to a load's tests, a Result, is their verdict: where the first of two lists passes and where it fails, and of lists that are asked one
--- after the other until one of them fails.
+-- What code answers to a load's tests, a Result, is their verdict: where the first of two lists passes and where it fails, and of lists that are
+-- asked one after the other until one of them fails.
 use mathlib.Core.Path.{◌≡◌, refl, sym, ap, subst, ◌∙◌}
 use mathlib.Core.List.{List, ◌++◌}
 use mathlib.Core.Logic.{⊎_elim}

@@ -7,6 +7,10 @@ use native.Mathlib.Omega.{arith}
 use borrow.Author.Tests.{ltb-false, le-ltb, not-false}
 use lib.Dec.{ltb}
 use lib.IntN.{ℤ, pos}
+use Rattle.std.specs.Prelude.{nat_eq}
+use Rattle.std.specs.List.{starts_with}
+use Rattle.std.proofs.lemmas.Bool.Decides.{nat_tests}
+use Rattle.lists.specs.Below.{all_below}
 use Rattle.endian.specs.Number.{number_at}
 use Rattle.endian.specs.Signed.{signed, signed_at, natural}
 use Rattle.endian.proofs.Signed.{natural_signed, within_one}
@@ -19,9 +23,9 @@ use Rattle.format.specs.declared.fault.Broken.{Broken}
 use Rattle.format.specs.declared.refusal.Refusal.{Refusal}
 use Rattle.format.specs.Kinds
 use Rattle.format.specs.Refusals.{Test, test_at, verdict, passed, number_of}
-use Rattle.format.specs.Meta1.{fixed_length, format_at, blocksize_at, tasks_at, files_at, file_number_at, version_field, patch_field, files_field, file_number_field}
+use Rattle.format.specs.Meta1.{magic, fixed_length, format_at, blocksize_at, tasks_at, files_at, file_number_at, version_field, patch_field, files_field, file_number_field}
 use Rattle.format.specs.Record.{order_of, files_of, file_of, head_of}
-use Rattle.format.specs.Judge.{number_fault, end_fault, big_in, ordered_in, tasks_in, head_in, start_tests, field_tests, fixed_tests}
+use Rattle.format.specs.Judge.{number_fault, end_fault, magic_in, big_in, ordered_in, tasks_in, head_in, start_tests, field_tests, fixed_tests}
 use Rattle.front.specs.Judging.{Covers, HeadRead, order_test, value_test}
 use Rattle.format.proofs.Power.{blocksize_facts}
 use Rattle.format.proofs.Rules.{blocksize_natural, tasks_natural}
@@ -31,6 +35,15 @@ use Rattle.format.proofs.Judged.{verdict_of, passed_passes}
 use Rattle.format.proofs.Accepting.{start_numbered, field_numbered}
 use Rattle.format.proofs.Formats.{format_facts, format_number}
 use Rattle.format.proofs.Fields.{blocksize_number, tasks_number, tasks_facts, verdict_agree}
+
+-- the first bytes compared with the magic number's are the test of each
+pub magic_starts : (xs : List ℕ) → starts_with nat_eq xs magic ≡ magic_in xs
+unfolding magic_in all_below
+magic_starts [] = grind (arith, nat_tests)
+magic_starts (a ∷ []) = grind (arith, nat_tests)
+magic_starts (a ∷ b ∷ []) = grind (arith, nat_tests)
+magic_starts (a ∷ b ∷ c ∷ []) = grind (arith, nat_tests)
+magic_starts (a ∷ b ∷ c ∷ d ∷ xs) = grind (arith, nat_tests)
 
 -- the order number is 1 in big order
 pub big_ordered : (xs : List ℕ) → big_in xs ≡ true → ordered_in xs ≡ true

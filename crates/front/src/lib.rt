@@ -6,7 +6,7 @@ ghost use Rattle.std.specs.Prelude.{◌≡◌, false, ◌+◌, ◌<◌, ◌≤�
 ghost use Rattle.endian.specs.Signed.{signed_at};
 ghost use Rattle.format.specs.Meta1.{fixed_length};
 ghost use Rattle.format.specs.Refusals.{judged, kind_of, verdict};
-ghost use Rattle.format.specs.Judge.{is, magic_in, big_in, head_in, start_tests, field_tests, fixed_tests};
+ghost use Rattle.format.specs.Judge.{is, big_in, head_in, start_tests, field_tests, fixed_tests};
 ghost use Rattle.front.specs.Judging.{Covers, order_test, value_test};
 
 use endian::read;
@@ -15,13 +15,6 @@ use format::head::{File, Head};
 use format::refusal::Refusal;
 use format::{field, limit};
 use rules::limits;
-
-fn has_magic(xs: &[u8]) -> bool
-    requires { 4 ≤ length xs.now }
-    ensures { result ≡ magic_in xs.now }
-{
-    xs.starts_with(&field::MAGIC)
-}
 
 // Whether the field of 4 bytes has this value.
 fn field_is(xs: &[u8], at: usize, big: bool, value: u32) -> bool
@@ -55,7 +48,7 @@ fn judge_start(xs: &[u8], len: u64) -> Result<bool, Broken>
     ensures verdict { judged result ≡ verdict (start_tests xs.now len) }
     ensures order { IfOk result (λ big. big ≡ big_in xs.now) }
 {
-    if len < 4 || !has_magic(xs) {
+    if len < 4 || !xs.starts_with(&field::MAGIC) {
         return Err(faults::not_as_needed(Refusal::NoMark, Field::Mark, 0, 0, 0));
     }
     let big = judge_order(xs, len)?;

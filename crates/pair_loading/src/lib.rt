@@ -1,99 +1,98 @@
-// Loading a pair (W-204): both files checked and then the mapping, before either table is filled. A parameter whose name ends in 0 or 1 is of that file.
+// Loading a pair (W-204): both files judged and then the mapping, before either table is filled. A parameter whose name ends in 0 or 1 is of that
+// file.
 #![tactic(auto)]
 
 ghost use Rattle.std.specs.Prelude.{◌≡◌};
-ghost use Rattle.format.specs.declared.fault.Fault.{Fault};
-ghost use Rattle.format.specs.Record.{no_lists};
-ghost use Rattle.format.specs.Loaded.{no_loaded};
-ghost use Rattle.pairs.specs.declared.PairLoaded.{PairLoaded};
 ghost use Rattle.pairs.specs.Load.{pair_checked, pair_loaded, pair_load_tables};
+ghost use Rattle.pair_loading.specs.Answers.{refused_pair, pair_loaded_of};
 
-use format::fault::Fault;
-use format::head;
-use format::head::{File, LISTS};
+use format::fault::{Broken, Fault};
+use format::head::{File, Head, LISTS};
 use format::loaded::Loaded;
+use layout::Layout;
 use pairs::PairLoaded;
-use rules::heads;
 
-// A refusal with what is broken and in which file, beside two records of zeros marked closed.
-fn no_pair(refusal: u32, file: u32, fault: Fault) -> PairLoaded
-    ensures { result ≡ record { loaded0 = no_loaded; lists0 = no_lists; loaded1 = no_loaded; lists1 = no_lists; refusal = refusal; file = file; fault = fault } }
+// What is broken, and in which file.
+#[derive(Clone, Copy)]
+pub struct PairBroken {
+    pub file: u32,
+    pub broken: Broken,
+}
+
+// Both images judged, for tables of so many cells: all tests of file 0, then all of file 1, then 25; no table is touched. Where they pass, both
+// records are handed back, and the lists that are lent are theirs.
+pub fn judge(
+    image0: &[u8],
+    cells0: usize,
+    lists0: &mut [u64; LISTS],
+    image1: &[u8],
+    cells1: usize,
+    lists1: &mut [u64; LISTS],
+) -> Result<(Loaded, Loaded), PairBroken>
+    ensures { pair_loaded_of result lists0.new lists1.new ≡ pair_checked image0.now image1.now cells0 cells1 }
 {
-    let head = heads::no_head();
+    let loaded0 = loading::judge(File::First, image0, cells0, lists0).map_err(|broken| PairBroken {
+        file: 0,
+        broken,
+    })?;
+    let loaded1 = loading::judge(File::Second, image1, cells1, lists1).map_err(|broken| PairBroken {
+        file: 1,
+        broken,
+    })?;
+    let end = Layout::of(loaded0.head, lists0).meta2_end(loaded0.maxchunks);
+    let big = loaded0.head.order == 1;
+    let ranks0 = &lists0[..loaded0.head.n as usize];
+    let ranks1 = &lists1[..loaded1.head.n as usize];
+    mapping::judge(image0, end as usize, big, ranks0, ranks1).map_err(|broken| PairBroken {
+        file: 0,
+        broken,
+    })?;
+    Ok((loaded0, loaded1))
+}
+
+// What is broken and in which file, beside two records of zeros marked closed.
+fn no_pair(file: u32, broken: Broken) -> PairLoaded
+    ensures { result ≡ refused_pair file broken }
+{
     let none = Loaded {
-        head,
+        head: Head::default(),
         maxchunks: 0,
         closed: 1,
     };
-    let lists = [0; LISTS];
     PairLoaded {
         loaded0: none,
-        lists0: lists,
+        lists0: [0; LISTS],
         loaded1: none,
-        lists1: lists,
-        refusal,
+        lists1: [0; LISTS],
+        refusal: broken.refusal.number(),
         file,
-        fault,
+        fault: broken.fault,
     }
 }
 
-// Checks both images, for tables of so many cells: all tests of file 0, then all of file 1, then 25; no table is touched.
-pub fn check(image0: &[u8], cells0: usize, image1: &[u8], cells1: usize) -> PairLoaded
-    ensures { result ≡ pair_checked image0.now image1.now cells0 cells1 }
-{
-    let one = loading::check(File::First, image0, cells0);
-    if one.refusal != 0 {
-        let fault = one.fault;
-        return no_pair(one.refusal, 0, fault);
-    }
-    let two = loading::check(File::Second, image1, cells1);
-    if two.refusal != 0 {
-        let fault = two.fault;
-        return no_pair(two.refusal, 1, fault);
-    }
-    let loaded0 = one.loaded;
-    let lists0 = one.lists;
-    let loaded1 = two.loaded;
-    let lists1 = two.lists;
-    let h = loaded0.head;
-    let sizes = &lists0[head::SIZES..head::COUNTS];
-    let end = layout::meta2_end(sizes, h.n, h.blocksize, loaded0.maxchunks);
-    let verdict = mapping::judge(
-        image0,
-        end as usize,
-        h.order == 1,
-        &lists0[..head::SIZES],
-        h.n as usize,
-        &lists1[..head::SIZES],
-        loaded1.head.n as usize,
-    );
-    let fault = verdict.fault;
-    if verdict.refusal != 0 {
-        return no_pair(verdict.refusal, 0, fault);
-    }
-    PairLoaded {
-        loaded0,
-        lists0,
-        loaded1,
-        lists1,
-        refusal: 0,
-        file: 0,
-        fault,
-    }
-}
-
-// Checks a pair. Accepted, both records are handed back, and of each table the first n times maxchunks cells are filled.
+// Judges a pair. Accepted, both records are handed back, and of each table the first n times maxchunks cells are filled; refused, what is broken is,
+// beside two records of zeros marked closed.
 pub fn load(image0: &[u8], table0: &mut [i64], image1: &[u8], table1: &mut [i64]) -> PairLoaded
     ensures value { result ≡ pair_loaded image0.now image1.now table0.old table1.old }
     ensures table1_after { (table0.new, table1.new) ≡ pair_load_tables image0.now image1.now table0.old table1.old }
 {
-    let answer = check(image0, table0.len(), image1, table1.len());
-    if answer.refusal != 0 {
-        return answer;
+    let mut lists0 = [0; LISTS];
+    let mut lists1 = [0; LISTS];
+    let (cells0, cells1) = (table0.len(), table1.len());
+    match judge(image0, cells0, &mut lists0, image1, cells1, &mut lists1) {
+        Ok((loaded0, loaded1)) => {
+            loading::fill(image0, loaded0, &lists0, table0);
+            loading::fill(image1, loaded1, &lists1, table1);
+            PairLoaded {
+                loaded0,
+                lists0,
+                loaded1,
+                lists1,
+                refusal: 0,
+                file: 0,
+                fault: Fault::default(),
+            }
+        }
+        Err(PairBroken { file, broken }) => no_pair(file, broken),
     }
-    let one = answer.loaded0;
-    let two = answer.loaded1;
-    loading::fill(image0, one.head, &answer.lists0, one.maxchunks, table0);
-    loading::fill(image1, two.head, &answer.lists1, two.maxchunks, table1);
-    answer
 }

@@ -76,9 +76,10 @@ span_ok-requires-clause-cells_in_bounds c =
     let j : ℕ = c.loop-j.j in
     let h : After-chunks_hold = (goal.at.span_ok-requires-clause-cells_in_bounds c).After-chunks_hold in
     let m : After-min-w = (goal.at.span_ok-requires-clause-cells_in_bounds c).After-min-w in
+    let below : j < lay.n * a.m = omega arith in
     let small : lay.n * a.m ≤ lay.n * max_blocks = mul-le-mul_left lay.n c.requires.m_in_bounds.0 in (
       omega (arith, div-le_self j lay.n, small, lay.sound.tasks, c.fill.auto.table, width m, c.min-w.ensures),
-      λ _. rw (held_long h) (task_in_row lay.n a.m j c.loop-j-test.true),
+      λ _. omega (arith, held_long h, task_in_row lay.n a.m j below),
     )
 
 -- it is judged by the rule of its cells
