@@ -41,14 +41,14 @@ one_of : (s : In_ok-loaded0) → let a = s.args in
 one_of s =
     let was = mapped_ok s.judge.result _ s.map_err.result s.in_ok-loaded0.loaded0 s.in_ok-loaded0.was s.map_err.ensures.cases in
     let e = s.judge.ensures in
-    accepted_answer First s.args.image0.now s.args.cells0 (ap judged (sym was) ∙ e.verdict) (IfOk-at_ok _ was e.loaded) (IfOk-at_ok _ was e.lists_after)
+    accepted_answer First s.args.image0.now s.args.cells0 (ap judged (sym was) ∙ e.verdict) (IfOk-at_ok _ was e.loaded) (IfOk-at_ok _ was e.accepted)
 
 two_of : (s : In_ok-loaded1) → let a = s.args in
     record { loaded = s.in_ok-loaded1.loaded1; lists = s.judge-2.new.lists; refusal = 0; fault = no_fault } ≡ check_answer Second a.image1.now a.cells1
 two_of s =
     let was = mapped_ok s.judge-2.result _ s.map_err-2.result s.in_ok-loaded1.loaded1 s.in_ok-loaded1.was s.map_err-2.ensures.cases in
     let e = s.judge-2.ensures in
-    accepted_answer Second s.args.image1.now s.args.cells1 (ap judged (sym was) ∙ e.verdict) (IfOk-at_ok _ was e.loaded) (IfOk-at_ok _ was e.lists_after)
+    accepted_answer Second s.args.image1.now s.args.cells1 (ap judged (sym was) ∙ e.verdict) (IfOk-at_ok _ was e.loaded) (IfOk-at_ok _ was e.accepted)
 
 -- a refused check of a file
 refused_check : Broken → LoadAnswer
