@@ -13,7 +13,6 @@ use Rattle.lists.specs.Stores.{found}
 use Rattle.format.specs.Meta1.{opening_stores}
 use Rattle.format.proofs.Storing.{opened_found}
 use Rattle.format.specs.Record.{entry, lists_of, rank_of, size_of, head_of}
-use Rattle.format.proofs.Stripes.{length_lists}
 use Rattle.format.specs.Session.{session_of}
 use Rattle.format.proofs.Formats.{least_one}
 use Rattle.format.specs.Open.{Opening, opening_of, blank_cells, open_head, open_session, open_lists}
@@ -33,15 +32,10 @@ lists_of-lists-requires c =
     let p = known.plan in (p.few_tasks, p.listed)
 
 pub meta1-requires-clause-blocksize_value : goal.meta1-requires-clause-blocksize_value
-unfolding open_lists
 meta1-requires-clause-blocksize_value c =
     let given : Opening = let a = c.args in opening_of a.file a.plan a.ranks.now a.sizes.now a.prefix.now in
     let known : OpeningHolds given (length c.args.image.now) (length c.args.table.now) = opening_holds _ _ _ c.requires in
-    let made : c.lists_of-lists.result ≡ open_lists given =
-    let a = c.args in
-    c.lists_of-lists.ensures
-    ∙ ap (λ (count : ℕ). lists_of (length a.ranks.now) (entry a.ranks.now) (entry a.sizes.now) (λ i. count)) c.least_count-begun.ensures in
-    (known.plan.block, known.plan.few_tasks, ap length made ∙ length_lists _ _ _ _)
+    (known.plan.block, known.plan.few_tasks)
 
 pub meta1-requires-clause-prefix_len_bound : goal.meta1-requires-clause-prefix_len_bound
 meta1-requires-clause-prefix_len_bound c =
