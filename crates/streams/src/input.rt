@@ -1,7 +1,6 @@
 // An input read whole: a container from a file or from standard input.
 ghost use Rattle.std.specs.Prelude.{◌≡◌, ◌≤◌, ◌<◌, length, take, IfOk, OnErr};
 ghost use Rattle.std.specs.Io.KnownBytes.{Consumes, IsAtEnd, Keeps};
-ghost use Rattle.io.specs.Counts.{IsPrefixLen};
 
 use crate::AGAIN;
 use std::io::{Error, ErrorKind, Read, Result};
@@ -31,7 +30,7 @@ fn read_some<R: Read>(from: &mut R, part: &mut [u8]) -> Result<usize>
 // read of the system moves is open: only that it fits is promised. Of a reader whose bytes are known, those that count are the first that it had,
 // and where there is room left it has no more.
 pub fn read_input<R: Read>(from: &mut R, buf: &mut [u8]) -> Result<usize>
-    ensures prefix_len { IfOk result (λ n. IsPrefixLen n buf.new) }
+    ensures fits { IfOk result (λ n. n ≤ length buf.new) }
     ensures bytes { IfOk result (λ n. Consumes (R.remaining from.old) (R.remaining from.new) (take n buf.new)) }
     ensures end { IfOk result (λ n. n < length buf.new → IsAtEnd (R.remaining from.new)) }
 {
