@@ -1,6 +1,7 @@
 -- Each return by the tests that led there.
 use mathlib.Core.Path.{◌≡◌, sym, ◌∙◌}
 use mathlib.Core.Bool.{true}
+use borrow.Author.Rules.{rules}
 use lib.IntN.{pos}
 use lib.ListN.{length, take, get_or}
 use lib.Seq.{length-take-le}
@@ -16,7 +17,7 @@ head c = sym c.head_ok.ensures ∙ c.if-not-head_ok.false
 
 pub returns-then-not-head_ok : goal.returns-then-not-head_ok
 unfolding loaded_sound
-returns-then-not-head_ok c = rw (← c.head_ok.ensures, c.if-not-head_ok.true)
+returns-then-not-head_ok c = search rules
 
 pub slice_bounds-counts-end-2 : goal.slice_bounds-counts-end-2
 slice_bounds-counts-end-2 c =

@@ -2,6 +2,7 @@
 use mathlib.Core.Path.{◌≡◌, sym, ap, ◌∙◌}
 use mathlib.Core.Bool.{true}
 use Prim.Native.Nat.{ℕ}
+use borrow.Author.Rules.{rules}
 use lib.IntN.{pos}
 use lib.ListN.{length, take, get_or}
 use lib.Seq.{length-take-le}
@@ -29,7 +30,7 @@ rule c least e =
 
 pub returns-then-not-head_ok : goal.returns-then-not-head_ok
 unfolding session_sound
-returns-then-not-head_ok c = rw (← c.head_ok.ensures, c.if-not-head_ok.true)
+returns-then-not-head_ok c = search rules
 
 pub slice_bounds-counts-end-2 : goal.slice_bounds-counts-end-2
 slice_bounds-counts-end-2 c =
