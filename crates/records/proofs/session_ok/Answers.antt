@@ -58,10 +58,4 @@ pub returns-else-is_none : goal.returns-else-is_none
 unfolding session_sound
 returns-else-is_none c =
     let known = rule (goal.at.returns-else-is_none c).Else-not-head_ok _ c.least_count-least.ensures in
-    rw (c.if-is_none.false, ← c.head_ok.ensures, c.if-not-head_ok.false, ← c.planned_ok.ensures)
-    (elim c.if-planned_ok.branch [
-      | then-planned_ok w ↦
-          let judged = is_none_of _ _ w.is_none.ensures ∙ ap is_none w.first_outside.ensures ∙ is_none_bad _ _ in
-          rw (w.if-planned_ok.true, sym known ∙ sym judged ∙ sym w.value-is ∙ c.if-is_none.false)
-      | else-planned_ok w ↦ rw w.if-planned_ok.false
-    ])
+    search (rules, is_none_of, is_none_bad)
