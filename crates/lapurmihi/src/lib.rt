@@ -40,7 +40,7 @@ pub extern "C" fn lapur_version() -> u32
 pub extern "C" fn lapur_chunk_size(size: u64, blocksize: u32) -> ByteCount
     ensures { result ≡ chunk_size_answer size blocksize }
 {
-    container::chunk_size(size, blocksize)
+    ByteCount::from(container::chunk_size(size, blocksize))
 }
 
 #[unsafe(no_mangle)]
@@ -114,7 +114,7 @@ pub extern "C" fn lapur_chunk_lent(
     ensures value { result ≡ part_answer (container_of Single l lists.now image.now table.now) task chunk }
     ensures length_in_bounds { result.start + result.length ≤ length image.now }
 {
-    container::part(l, lists, image, table, task, chunk)
+    Part::from(container::part(l, lists, image, table, task, chunk))
 }
 
 #[unsafe(no_mangle)]
@@ -127,7 +127,7 @@ pub extern "C" fn lapur_total_lent(
 ) -> ByteCount
     ensures { result ≡ total_answer (container_of Single l lists.now image.now table.now) task }
 {
-    container::total(l, lists, image, table, task)
+    ByteCount::from(container::total(l, lists, image, table, task))
 }
 
 #[unsafe(no_mangle)]
@@ -143,7 +143,8 @@ pub extern "C" fn lapur_read_lent(
     ensures value { result ≡ read_answer (container_of Single l lists.now image.now table.now) task p out.old }
     ensures out_after { out.new ≡ read_output (container_of Single l lists.now image.now table.now) task p out.old }
 {
-    container::read(l, lists, image, table, task, p, out)
+    let copied = container::read(l, lists, image, table, task, p, out);
+    ByteCount::from(copied.map(|bytes| bytes as u64))
 }
 
 #[unsafe(no_mangle)]
@@ -155,7 +156,7 @@ pub extern "C" fn lapur_length_lent(
 ) -> ByteCount
     ensures { result ≡ length_answer (container_of Single l lists.now image.now table.now) }
 {
-    container::whole_length(l, lists, image, table)
+    ByteCount::from(container::whole_length(l, lists, image, table))
 }
 
 #[unsafe(no_mangle)]
@@ -168,5 +169,5 @@ pub extern "C" fn lapur_prefix_lent(
     ensures value { result ≡ prefix_answer (container_of Single l lists.now image.now table.now) }
     ensures length_in_bounds { result.start + result.length ≤ length image.now }
 {
-    container::prefix(l, lists, image, table)
+    Part::from(container::prefix(l, lists, image, table))
 }

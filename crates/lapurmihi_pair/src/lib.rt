@@ -24,6 +24,7 @@ ghost use Rattle.pairs.specs.Reads.{loaded_pair, pair_part, pair_total, pair_rea
 
 use format::head::LISTS;
 use format::loaded::{ByteCount, Loaded};
+use format::refusal;
 use format::session::{Plan, Session};
 use pairs::{PairClosed, PairLoaded, PairNeeded, PairOpened, PairPart};
 
@@ -86,9 +87,10 @@ pub extern "C" fn lapur_pair_write_lent(
     ensures value { result ≡ pair_write_refusal (pair_of (state_of First s0 lists0.old image0.old table0.old) (state_of Second s1 lists1.old image1.old table1.old)) (request_of rank bytes.now) }
     ensures table1_after { (pair_of (state_of First s0 lists0.new image0.new table0.new) (state_of Second s1 lists1.new image1.new table1.new)) ≡ pair_after_write (pair_of (state_of First s0 lists0.old image0.old table0.old) (state_of Second s1 lists1.old image1.old table1.old)) (request_of rank bytes.now) }
 {
-    pair::write(
+    let answer = pair::write(
         s0, lists0, image0, table0, s1, lists1, image1, table1, rank, bytes,
-    )
+    );
+    refusal::answered(answer)
 }
 
 #[unsafe(no_mangle)]
@@ -105,7 +107,8 @@ pub extern "C" fn lapur_pair_close_lent(
     ensures value { result ≡ pair_closed (pair_of (state_of First s0 lists0.now image0.old table0.now) (state_of Second s1 lists1.now image1.old table1.now)) }
     ensures image1_after { (image0.new, image1.new) ≡ pair_close_images (pair_of (state_of First s0 lists0.now image0.old table0.now) (state_of Second s1 lists1.now image1.old table1.now)) }
 {
-    pair::close(s0, lists0, image0, table0, s1, lists1, image1, table1)
+    let answer = pair::close(s0, lists0, image0, table0, s1, lists1, image1, table1);
+    PairClosed::of(s0, s1, answer)
 }
 
 #[unsafe(no_mangle)]
@@ -137,9 +140,9 @@ pub extern "C" fn lapur_pair_chunk_lent(
     ensures value { result ≡ pair_part (loaded_pair (container_of First l0 lists0.now image0.now table0.now) (container_of Second l1 lists1.now image1.now table1.now)) rank chunk }
     ensures length_in_bounds { result.start + result.length ≤ length (cond (eqb result.file 0) image0.now image1.now) }
 {
-    pair::part(
+    PairPart::from(pair::part(
         l0, lists0, image0, table0, l1, lists1, image1, table1, rank, chunk,
-    )
+    ))
 }
 
 #[unsafe(no_mangle)]
@@ -156,7 +159,7 @@ pub extern "C" fn lapur_pair_total_lent(
 ) -> ByteCount
     ensures { result ≡ pair_total (loaded_pair (container_of First l0 lists0.now image0.now table0.now) (container_of Second l1 lists1.now image1.now table1.now)) rank }
 {
-    pair::total(l0, lists0, image0, table0, l1, lists1, image1, table1, rank)
+    ByteCount::from(pair::total(l0, lists0, image0, table0, l1, lists1, image1, table1, rank))
 }
 
 #[unsafe(no_mangle)]
@@ -176,7 +179,8 @@ pub extern "C" fn lapur_pair_read_lent(
     ensures value { result ≡ pair_read_answer (loaded_pair (container_of First l0 lists0.now image0.now table0.now) (container_of Second l1 lists1.now image1.now table1.now)) rank p out.old }
     ensures out_after { out.new ≡ pair_read_output (loaded_pair (container_of First l0 lists0.now image0.now table0.now) (container_of Second l1 lists1.now image1.now table1.now)) rank p out.old }
 {
-    pair::read(
+    let copied = pair::read(
         l0, lists0, image0, table0, l1, lists1, image1, table1, rank, p, out,
-    )
+    );
+    ByteCount::from(copied.map(|bytes| bytes as u64))
 }

@@ -51,7 +51,7 @@ fn container_line(image: &[u8]) -> ArrayString<LINE>
     push_spaced(&mut text, u64::from(l.head.n));
     push_spaced(&mut text, u64::from(l.maxchunks));
     for task in 1..=u64::from(l.head.n) {
-        // No total of a container that loads is refused.
+        // None is refused of a container that loads; a refused total has no bytes.
         let total = container::total(l, &lists, image, &table, task).unwrap_or(0);
         push_spaced(&mut text, total);
     }

@@ -14,7 +14,7 @@ use Rattle.format.specs.Refusals.{test, first_failing}
 use Rattle.format.specs.Record.{all_lists, count_of, file_in}
 use Rattle.format.specs.Reads.{Container, container_of, loaded_tests, chunks_used}
 use Rattle.format.specs.Passed.{Readable}
-use Rattle.format.proofs.Refusals.{Numbered, none_fails}
+use Rattle.format.proofs.Refusals.{Numbered, none_fails, first_passes}
 use Rattle.format.proofs.Verdicts.{each_append}
 use Rattle.format.proofs.Passing.{head_tasks}
 use Rattle.format.proofs.LoadedRecords.{loaded_passed, loaded_file}
@@ -103,6 +103,13 @@ pub pair_read_numbered : (p : LoadedPair) (rank : ℕ) → Numbered (pair_read_t
 unfolding pair_read_tests
 pair_read_numbered p rank = each_append _ (loaded_pair_tests p) _ (loaded_pair_numbered p) (omega arith, tt)
 
+-- where they pass, a chunk is asked for
+pub chunk_asked : (p : LoadedPair) (rank chunk : ℕ)
+    → first_failing (pair_read_tests p rank) ≡ 0
+    → pair_chunk_refusal p rank chunk ≡ first_failing (test 22 (not (within 1 (chunks_used (file_there p rank) (task_there p rank)) (pos chunk))) ∷ [])
+unfolding pair_chunk_refusal
+chunk_asked p rank chunk passes = first_passes (pair_read_tests p rank) _ (pair_read_numbered p rank) passes
+
 module _ {p : LoadedPair} {rank file : ℕ} {c : Container} {task : ℕ} (found : Found p rank file c task) where
   -- what is asked of the file and the task is what the rules ask of theirs
   pub there : {A : Type 0} (f : Container → ℕ → A) → f c task ≡ f (file_there p rank) (task_there p rank)
@@ -115,10 +122,11 @@ module _ {p : LoadedPair} {rank file : ℕ} {c : Container} {task : ℕ} (found 
   module _ (chunk : ℕ) (passes : 0 ≡ first_failing (pair_read_tests p rank)) {number : ℕ}
       (tested : number ≡ first_failing (test 22 (not (within 1 (count_of c.lists (task - 1)) (pos chunk))) ∷ [])) where
     pub chunk_tested : number ≡ pair_chunk_refusal p rank chunk
-    unfolding pair_chunk_refusal chunks_used
+    unfolding chunks_used
     chunk_tested =
-        next_answers (pair_read_tests p rank) _ (pair_read_numbered p rank) passes
-        (tested ∙ there (λ f t. first_failing (test 22 (not (within 1 (count_of f.lists (t - 1)) (pos chunk))) ∷ [])))
+        tested
+        ∙ there (λ f t. first_failing (test 22 (not (within 1 (count_of f.lists (t - 1)) (pos chunk))) ∷ []))
+        ∙ sym (chunk_asked p rank chunk (sym passes))
 
     pub chunk_used : number ≡ 0 → (1 ≤ chunk) × (chunk ≤ chunks_used c task)
     unfolding chunks_used

@@ -20,14 +20,15 @@ fn write_some<W: Write>(to: &mut W, part: &[u8]) -> Result<usize>
     Err(Error::from(ErrorKind::Interrupted))
 }
 
-// Whether all of text was written: in one write where the system takes it whole, in more only after a short one, and not where one failed or
-// took nothing. What a write of the system moves is open: only that an empty text counts as written is promised. A writer whose bytes are known
-// has text behind them then.
+// Writes all of text: in one write where the system takes it whole, and in more only after a short one. It fails where one fails or takes nothing.
+// What a write of the system moves is open: only that an empty text counts as written is promised. A writer whose bytes are known has text behind
+// them then. The loop is not `write_all`'s, which tries another number of times and whose errors read otherwise.
 pub fn write_text<W: Write>(to: &mut W, text: &[u8]) -> Result<()>
     ensures empty { length text.now ≡ 0 → IsOk result }
     ensures bytes { OnOk result (Appends (W.contents to.old) (W.contents to.new) text.now) }
 {
     let mut rest = text;
+    // A write may take fewer bytes than there are, so no count of the writes is known.
     while !rest.is_empty() {
         match write_some(to, rest)? {
             0 => return Err(Error::from(ErrorKind::WriteZero)),

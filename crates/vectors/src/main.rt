@@ -1,5 +1,6 @@
 // Runs stored containers: for each file that an argument names, prints its name, the line about it and, if it is accepted, the Adler-32
 // (RFC 1950) of all its chunks' parts and of all its tasks' streams, and what a load answers whose table has one cell too few.
+// What cannot be written is left out: the lines are compared with those that are wanted.
 #![tactic(auto)]
 
 use format::head::LISTS;
@@ -23,7 +24,7 @@ const MOST_BYTES: u64 = 65_536;
 
 const ADLER: u64 = 65_521;
 
-// The Adler-32 of the bytes that were added.
+// The Adler-32 of the bytes that were added to it.
 #[derive(Clone, Copy)]
 struct Sum {
     a: u64,
@@ -42,6 +43,7 @@ impl fmt::Display for Sum {
     }
 }
 
+// The sum of any two numbers, so that no loop has to say how great its own are.
 fn plus(x: u64, y: u64) -> u64 {
     (x % ADLER + y % ADLER) % ADLER
 }
@@ -65,6 +67,7 @@ struct Container<'a> {
 }
 
 impl Container<'_> {
+    // One chunk's part of the image.
     fn chunk(&self, task: u64, chunk: u64) -> Result<&[u8], Refusal> {
         container::chunk(self.loaded, self.lists, self.image, self.table, task, chunk)
     }
@@ -103,7 +106,7 @@ impl Container<'_> {
     }
 }
 
-// What cannot be written is left out: the lines are compared with those that are wanted.
+// The sums of all tasks' chunks and of their streams.
 fn print_sums(rt: &HostRuntime, container: &Container) {
     let mut parts = Sum::default();
     let mut streams = Sum::default();

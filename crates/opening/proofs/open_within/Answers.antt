@@ -11,28 +11,29 @@ use Rattle.format.proofs.Refusals.{some_number}
 use Rattle.format.proofs.Opening.{refused_answer, refused_table}
 use Rattle.format.proofs.Storing.{refused_found}
 use Rattle.opening.proofs.open_within.Goals as goal
+use Rattle.opening.proofs.open_within.Goals.{Start, In-Err}
+
+-- the opening that the call means
+abbrev given : Start → Opening
+given s = let a = s.args in opening_of Single a.plan a.ranks.now a.sizes.now a.prefix.now
+
+-- refused by its tests
+refused : (c : In-Err) → let a = c.args in 0 < open_refusal (opening_of Single a.plan a.ranks.now a.sizes.now a.prefix.now) (length a.image.now) (length a.table.now)
+refused c = omega (arith, c.in-Err.ensures, some_number c.in-Err.refusal)
 
 pub returns-in-Err-clause-value : goal.returns-in-Err-clause-value
 returns-in-Err-clause-value c =
-    let given : Opening = let a = c.args in opening_of Single a.plan a.ranks.now a.sizes.now a.prefix.now in
-    let image = c.args.image.now in
-    let table = c.args.table.now in
-    let e = c.in-Err.ensures in
-    let some : 0 < open_refusal given (length image) (length table) = omega (arith, e, some_number c.in-Err.refusal) in
-    c.no_session.ensures ∙ ap (λ (r : ℕ). record { session = no_session; lists = no_lists; refusal = r }) e ∙ sym (refused_answer given image table some)
+    let at = goal.at.returns-in-Err-clause-value c in
+    c.no_session.ensures
+    ∙ ap (λ (r : ℕ). record { session = no_session; lists = no_lists; refusal = r }) c.in-Err.ensures
+    ∙ sym (refused_answer (given at.Start) c.args.image.now c.args.table.now (refused at.In-Err))
 
 pub returns-in-Err-clause-image_after : goal.returns-in-Err-clause-image_after
 returns-in-Err-clause-image_after c =
-    let given : Opening = let a = c.args in opening_of Single a.plan a.ranks.now a.sizes.now a.prefix.now in
-    let image = c.args.image.now in
-    let table = c.args.table.now in
-    let some : 0 < open_refusal given (length image) (length table) = omega (arith, c.in-Err.ensures, some_number c.in-Err.refusal) in
-    sym (refused_found given image table some c.args.budget)
+    let at = goal.at.returns-in-Err-clause-image_after c in
+    sym (refused_found (given at.Start) c.args.image.now c.args.table.now (refused at.In-Err) c.args.budget)
 
 pub returns-in-Err-clause-table_after : goal.returns-in-Err-clause-table_after
 returns-in-Err-clause-table_after c =
-    let given : Opening = let a = c.args in opening_of Single a.plan a.ranks.now a.sizes.now a.prefix.now in
-    let image = c.args.image.now in
-    let table = c.args.table.now in
-    let some : 0 < open_refusal given (length image) (length table) = omega (arith, c.in-Err.ensures, some_number c.in-Err.refusal) in
-    sym (refused_table given image table some)
+    let at = goal.at.returns-in-Err-clause-table_after c in
+    sym (refused_table (given at.Start) c.args.image.now c.args.table.now (refused at.In-Err))

@@ -10,6 +10,11 @@ use Rattle.format.specs.Open.{Opening, opening_of, needs_answer, open_refusal}
 use Rattle.format.proofs.Refusals.{some_number}
 use Rattle.format.proofs.Opening.{open_plan, open_short, open_enough}
 use Rattle.opening.proofs.test_opening.Goals as goal
+use Rattle.opening.proofs.test_opening.Goals.{Start}
+
+-- the opening that the call means
+abbrev given : Start → Opening
+given s = let a = s.args in opening_of Single a.plan a.ranks.now a.sizes.now a.prefix.now
 
 -- what is answered beside what is needed
 module _ (o : Opening) (image cells : ℕ) (r : Needed) (e : r ≡ needs_answer o) where
@@ -28,21 +33,17 @@ module _ (o : Opening) (image cells : ℕ) (r : Needed) (e : r ≡ needs_answer 
 
 pub returns-in_err-room : goal.returns-in_err-room
 returns-in_err-room c =
-    let given : Opening = let a = c.args in opening_of Single a.plan a.ranks.now a.sizes.now a.prefix.now in
     let p = err_from_is_err_and c.from_residual.result c.from_residual.ensures.1 in
-    rw (p.1, p.2) (refused given c.args.image c.args.cells _ c.in_err-room.ensures (some_number c.in_err-room.field-0.0))
+    rw (p.1, p.2) (refused (given (goal.at.returns-in_err-room c).Start) c.args.image c.args.cells _ c.in_err-room.ensures (some_number c.in_err-room.field-0.0))
 
 pub returns-then-image-room : goal.returns-then-image-room
 returns-then-image-room c =
-    let given : Opening = let a = c.args in opening_of Single a.plan a.ranks.now a.sizes.now a.prefix.now in
-    short given c.args.image c.args.cells _ c.in_ok-room.ensures refl (inl c.if-image-room.true)
+    short (given (goal.at.returns-then-image-room c).Start) c.args.image c.args.cells _ c.in_ok-room.ensures refl (inl c.if-image-room.true)
 
 pub returns-then-cells-room : goal.returns-then-cells-room
 returns-then-cells-room c =
-    let given : Opening = let a = c.args in opening_of Single a.plan a.ranks.now a.sizes.now a.prefix.now in
-    short given c.args.image c.args.cells _ c.in_ok-room.ensures refl (inr c.if-cells-room.true)
+    short (given (goal.at.returns-then-cells-room c).Start) c.args.image c.args.cells _ c.in_ok-room.ensures refl (inr c.if-cells-room.true)
 
 pub returns : goal.returns
 returns c =
-    let given : Opening = let a = c.args in opening_of Single a.plan a.ranks.now a.sizes.now a.prefix.now in
-    enough given c.args.image c.args.cells _ c.in_ok-room.ensures refl c.if-image-room.false c.if-cells-room.false
+    enough (given (goal.at.returns c).Start) c.args.image c.args.cells _ c.in_ok-room.ensures refl c.if-image-room.false c.if-cells-room.false

@@ -1,6 +1,7 @@
 -- Each return by the tests that led there.
 use mathlib.Core.Path.{◌≡◌, sym, ◌∙◌}
 use mathlib.Core.Bool.{true}
+use borrow.Author.Rules.{rules}
 use lib.IntN.{pos}
 use lib.ListN.{length, take, get_or}
 use lib.Seq.{length-take-le}
@@ -16,7 +17,7 @@ head c = sym c.head_ok.ensures ∙ c.if-not-head_ok.false
 
 pub returns-then-not-head_ok : goal.returns-then-not-head_ok
 unfolding loaded_sound
-returns-then-not-head_ok c = rw (← c.head_ok.ensures, c.if-not-head_ok.true)
+returns-then-not-head_ok c = search rules
 
 pub slice_bounds-counts-end-2 : goal.slice_bounds-counts-end-2
 slice_bounds-counts-end-2 c =
@@ -30,27 +31,8 @@ rule c = rule_taken c.args.l.head c.args.lists.now c.told-lists (head c) c.args.
 
 pub returns-then-counts_ok : goal.returns-then-counts_ok
 unfolding loaded_sound
-returns-then-counts_ok c =
-    let known = rule (goal.at.returns-then-counts_ok c).Else-not-head_ok in
-    elim c.if-maxchunks_ok.branch [
-      | then-maxchunks_ok w ↦
-          rw (
-            ← c.head_ok.ensures,
-            c.if-not-head_ok.false,
-            ← c.maxchunks_ok.ensures,
-            w.if-maxchunks_ok.true,
-            sym known ∙ sym w.counts_ok.ensures ∙ sym w.value-is ∙ c.if-counts_ok.true,
-          )
-          c.suits.ensures
-      | else-maxchunks_ok w ↦ cc
-    ]
+returns-then-counts_ok c = let known = rule (goal.at.returns-then-counts_ok c).Else-not-head_ok in search rules
 
 pub returns-else-counts_ok : goal.returns-else-counts_ok
 unfolding loaded_sound
-returns-else-counts_ok c =
-    let known = rule (goal.at.returns-else-counts_ok c).Else-not-head_ok in
-    rw (c.if-counts_ok.false, ← c.head_ok.ensures, c.if-not-head_ok.false, ← c.maxchunks_ok.ensures)
-    (elim c.if-maxchunks_ok.branch [
-      | then-maxchunks_ok w ↦ rw (w.if-maxchunks_ok.true, sym known ∙ sym w.counts_ok.ensures ∙ sym w.value-is ∙ c.if-counts_ok.false)
-      | else-maxchunks_ok w ↦ rw w.if-maxchunks_ok.false
-    ])
+returns-else-counts_ok c = let known = rule (goal.at.returns-else-counts_ok c).Else-not-head_ok in search rules

@@ -2,6 +2,7 @@
 use mathlib.Core.Path.{◌≡◌, sym, ap, ◌∙◌}
 use mathlib.Core.Bool.{true}
 use Prim.Native.Nat.{ℕ}
+use borrow.Author.Rules.{rules}
 use lib.IntN.{pos}
 use lib.ListN.{length, take, get_or}
 use lib.Seq.{length-take-le}
@@ -29,7 +30,7 @@ rule c least e =
 
 pub returns-then-not-head_ok : goal.returns-then-not-head_ok
 unfolding session_sound
-returns-then-not-head_ok c = rw (← c.head_ok.ensures, c.if-not-head_ok.true)
+returns-then-not-head_ok c = search rules
 
 pub slice_bounds-counts-end-2 : goal.slice_bounds-counts-end-2
 slice_bounds-counts-end-2 c =
@@ -57,10 +58,4 @@ pub returns-else-is_none : goal.returns-else-is_none
 unfolding session_sound
 returns-else-is_none c =
     let known = rule (goal.at.returns-else-is_none c).Else-not-head_ok _ c.least_count-least.ensures in
-    rw (c.if-is_none.false, ← c.head_ok.ensures, c.if-not-head_ok.false, ← c.planned_ok.ensures)
-    (elim c.if-planned_ok.branch [
-      | then-planned_ok w ↦
-          let judged = is_none_of _ _ w.is_none.ensures ∙ ap is_none w.first_outside.ensures ∙ is_none_bad _ _ in
-          rw (w.if-planned_ok.true, sym known ∙ sym judged ∙ sym w.value-is ∙ c.if-is_none.false)
-      | else-planned_ok w ↦ rw w.if-planned_ok.false
-    ])
+    search (rules, is_none_of, is_none_bad)

@@ -1,21 +1,16 @@
 -- Test 17 as the code makes it, and then the tests of what is lent.
 use mathlib.Core.Path.{sym, ◌∙◌}
-use borrow.Author.Tests.{eq-eqb, ne_eqb}
+use borrow.Author.Rules.{rules}
 use Rattle.format.specs.Refusals.{first_failing}
 use Rattle.format.specs.Record.{record_tests}
 use Rattle.format.specs.Reads.{loaded_tests}
 use Rattle.format.proofs.Passing.{head_kept}
 use Rattle.format.proofs.LoadedRecords.{loaded_holds}
 use Rattle.records.proofs.test_loaded.Goals as goal
-use Rattle.records.proofs.test_loaded.Goals.{then-l-ne0-via-then-l-ne0, then-l-ne0-via-else-l-ne0+then-not-loaded_ok}
 
 pub returns-then-l-ne0 : goal.returns-then-l-ne0
 unfolding first_failing loaded_tests record_tests
-returns-then-l-ne0 c =
-    elim c.then-l-ne0.branch [
-      | then-l-ne0-via-then-l-ne0 w ↦ simp (ne_eqb _ 0 w.if-l-ne0.true)
-      | then-l-ne0-via-else-l-ne0+then-not-loaded_ok w ↦ simp (eq-eqb _ 0 w.if-l-ne0.false, ← w.loaded_ok.ensures, w.if-not-loaded_ok.true)
-    ]
+returns-then-l-ne0 c = search rules
 
 pub test_lent-requires : goal.test_lent-requires
 test_lent-requires c =
@@ -24,4 +19,4 @@ test_lent-requires c =
 
 pub returns : goal.returns
 unfolding first_failing loaded_tests record_tests
-returns c = rw (eq-eqb _ 0 c.if-l-ne0.false, ← c.loaded_ok.ensures, c.if-not-loaded_ok.false) c.test_lent.ensures
+returns c = search rules

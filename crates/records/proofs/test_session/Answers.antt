@@ -1,21 +1,16 @@
 -- Test 17 as the code makes it, and then the tests of what is lent.
 use mathlib.Core.Path.{sym, ◌∙◌}
-use borrow.Author.Tests.{eq-eqb, ne_eqb}
+use borrow.Author.Rules.{rules}
 use Rattle.format.specs.Refusals.{first_failing}
 use Rattle.format.specs.Record.{record_tests}
 use Rattle.format.specs.Session.{session_tests}
 use Rattle.format.proofs.Passing.{head_kept}
 use Rattle.format.proofs.Sessions.{session_holds}
 use Rattle.records.proofs.test_session.Goals as goal
-use Rattle.records.proofs.test_session.Goals.{then-s-ne0-via-then-s-ne0, then-s-ne0-via-else-s-ne0+then-not-session_ok}
 
 pub returns-then-s-ne0 : goal.returns-then-s-ne0
 unfolding first_failing session_tests record_tests
-returns-then-s-ne0 c =
-    elim c.then-s-ne0.branch [
-      | then-s-ne0-via-then-s-ne0 w ↦ simp (ne_eqb _ 0 w.if-s-ne0.true)
-      | then-s-ne0-via-else-s-ne0+then-not-session_ok w ↦ simp (eq-eqb _ 0 w.if-s-ne0.false, ← w.session_ok.ensures, w.if-not-session_ok.true)
-    ]
+returns-then-s-ne0 c = search rules
 
 pub test_lent-requires : goal.test_lent-requires
 test_lent-requires c =
@@ -24,4 +19,4 @@ test_lent-requires c =
 
 pub returns : goal.returns
 unfolding first_failing session_tests record_tests
-returns c = rw (eq-eqb _ 0 c.if-s-ne0.false, ← c.session_ok.ensures, c.if-not-session_ok.false) c.test_lent.ensures
+returns c = search rules
