@@ -1,4 +1,4 @@
-// A number read at an offset of a slice, answered with that offset, its place.
+// Numbers read from a slice: one at an offset, answered with that offset, its place, and as many as another slice has room for.
 ghost use Rattle.std.specs.Prelude.{◌≡◌, ◌+◌, ◌*◌, ◌≤◌, length, take, drop};
 ghost use Rattle.lists.specs.Below.{list_below};
 ghost use Rattle.endian.specs.declared.read.Read.{Read};
