@@ -1,4 +1,4 @@
-// Numbers of 4 and 8 bytes in either byte order, unsigned and signed: what one is (`numbers`), and one read at an offset (`read`).
+// Numbers of 4 and 8 bytes in either byte order, unsigned and signed: what one is (`numbers`), and how one or many are read (`read`).
 #![tactic(auto)]
 
 pub mod numbers;

@@ -11,6 +11,7 @@ ghost use Rattle.format.specs.Refusals.{judged, verdict};
 ghost use Rattle.format.specs.Load.{loaded_in, lists_in, load_tests, load_answer, load_table};
 ghost use Rattle.format.specs.Passed.{Meta2Fits};
 
+use endian::read;
 use format::fault::{Broken, Fault, Field};
 use format::head::{File, Head, LISTS};
 use format::loaded::{LoadAnswer, Loaded};
@@ -79,7 +80,7 @@ pub fn fill(image: &[u8], loaded: Loaded, lists: &[u64; LISTS], table: &mut [i64
     let end = start + layout::meta2_length(h.n, loaded.maxchunks) as usize;
     let n = h.n as usize;
     let cells = &mut table[..n * loaded.maxchunks as usize];
-    meta2::fill(cells, &image[start..end], 8 * n, h.order == 1);
+    read::fill(cells, &image[start..end], 8 * n, h.order == 1);
 }
 
 // Judges an image. Accepted, the record is handed back and the first n times maxchunks cells are filled; refused, what is broken is, beside a record

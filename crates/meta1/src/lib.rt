@@ -2,8 +2,6 @@
 #![tactic(auto)]
 
 ghost use Rattle.std.specs.Prelude.{◌≡◌, suc, ◌+◌, ◌*◌, ◌<◌, ◌≤◌, ◌^◌, pos, length, IfOk};
-ghost use Rattle.lists.specs.Below.{list_below};
-ghost use Rattle.endian.specs.Number.{number_at};
 ghost use Rattle.endian.specs.Signed.{signed};
 ghost use Rattle.format.specs.Kinds;
 ghost use Rattle.format.specs.Limits.{max_tasks};
@@ -30,16 +28,6 @@ const MAX_START: u64 = 0x7fff_ffff_ffff_ffff;
 pub struct Last {
     pub maxchunks: u32,
     pub start: u64,
-}
-
-// The numbers of 8 bytes that stand from an offset on, into the whole stripe.
-pub fn read_stripe(stripe: &mut [u64], xs: &[u8], from: usize, big: bool)
-    requires { from + 8 * length stripe.old ≤ length xs.now }
-    ensures { stripe.new ≡ list_below (length stripe.old) (λ i. number_at big 8 xs.now (from + 8 * i)) }
-{
-    for (i, number) in stripe.iter_mut().enumerate() {
-        *number = read::get::<u64>(xs, from + 8 * i, big).value;
-    }
 }
 
 // start_of_varheader breaks its rule, which bounds it by `least` and `most`.
@@ -133,8 +121,8 @@ pub fn judge_lists(xs: &[u8], len: u64, h: Head, lists: &mut [u64; LISTS]) -> Re
 {
     let big = h.order == 1;
     let n = h.n as usize;
-    read_stripe(&mut lists[..n], xs, field::RANKS_AT, big);
+    read::fill(&mut lists[..n], xs, field::RANKS_AT, big);
     let sizes = &mut lists[head::SIZES..head::SIZES + n];
-    read_stripe(sizes, xs, layout::sizes_at(n), big);
+    read::fill(sizes, xs, layout::sizes_at(n), big);
     judge_read(xs, len, h, lists)
 }

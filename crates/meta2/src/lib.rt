@@ -1,11 +1,9 @@
-// META2, the second metadata block: its counts and values judged from its own part of the image, and its values put into a table.
+// META2, the second metadata block: its counts and values judged from its own part of the image.
 #![tactic(auto)]
 
 ghost use Rattle.std.specs.Prelude.{◌≡◌, suc, ◌+◌, ◌*◌, ◌<◌, ◌≤◌, ◌^◌, pos, length, get_or};
 ghost use Rattle.lists.specs.Below.{list_below};
 ghost use Rattle.endian.specs.Number.{number_at};
-ghost use Rattle.endian.specs.Signed.{signed_at};
-ghost use Rattle.lists.specs.Splice.{splice};
 ghost use Rattle.format.specs.Limits.{max_blocks, max_tasks};
 ghost use Rattle.format.specs.Layout.{capacity, meta2_length};
 ghost use Rattle.format.specs.declared.fault.Broken.{Broken};
@@ -28,16 +26,6 @@ use rules::limits;
 // So many values are decoded at a time to be judged.
 const TILE: usize = 128;
 
-// The values that stand from `at` on, into the whole table.
-pub fn fill(table: &mut [i64], part: &[u8], at: usize, big: bool)
-    requires { at + 8 * length table.old ≤ length part.now }
-    ensures { table.new ≡ list_below (length table.old) (λ j. signed_at big 8 part.now (at + 8 * j)) }
-{
-    for (j, cell) in table.iter_mut().enumerate() {
-        *cell = read::get::<i64>(part, at + 8 * j, big).value;
-    }
-}
-
 // The values of META2, by the rule for cells, a tile of them at a time; with a list for what the chunks hold.
 fn values_held(
     holds: &mut [u64],
@@ -59,7 +47,7 @@ fn values_held(
     for j in (0..cells).step_by(TILE) {
         let w = TILE.min(cells - j);
         let values = &mut tile[..w];
-        fill(values, part, 8 * n + 8 * j, big);
+        read::fill(values, part, 8 * n + 8 * j, big);
         if !tables::span_ok(values, (j / n) as u64, j % n, holds, counts) {
             return false;
         }
@@ -221,6 +209,6 @@ pub fn judge(
 {
     let big = h.order == 1;
     let n = h.n as usize;
-    meta1::read_stripe(&mut lists[head::COUNTS..head::COUNTS + n], part, 0, big);
+    read::fill(&mut lists[head::COUNTS..head::COUNTS + n], part, 0, big);
     judge_read(part, at, h, maxchunks, lists)
 }

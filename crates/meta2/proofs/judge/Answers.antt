@@ -18,7 +18,7 @@ use Rattle.format.specs.Judge.{meta2_tests}
 use Rattle.format.proofs.Chunks.{meta2_parts}
 use Rattle.format.proofs.Stripes.{sizes_counted, count_counted}
 use Rattle.meta2.proofs.judge.Goals as goal
-use Rattle.meta2.proofs.judge.Goals.{Start, After-read_stripe}
+use Rattle.meta2.proofs.judge.Goals.{Start, After-fill}
 
 -- the stripe has the counts of n tasks
 module _ (lists : List ℕ) (long : length lists ≡ all_lists) (n : ℕ) (few : n ≤ max_tasks) where
@@ -33,16 +33,16 @@ module _ (lists : List ℕ) (long : length lists ≡ all_lists) (n : ℕ) (few :
       splice_whole lists (2 * max_tasks) (list_below n count) (2 * max_tasks + n - 2 * max_tasks)
       (filled ∙ ap (λ (k : ℕ). list_below k count) length_stripe) (length_list count n ∙ omega arith)
 
-pub read_stripe-requires : goal.read_stripe-requires
-read_stripe-requires c =
+pub fill-requires : goal.fill-requires
+fill-requires c =
     let p = c.requires in
     omega (arith, length_stripe c.args.lists.now c.told-lists c.args.h.n p.sound.tasks, p.whole, meta2_parts c.args.h.n c.args.maxchunks)
 
 -- the lists with the counts
-counted : (s : After-read_stripe) → let a = s.args in
-    put_mid (2 * max_tasks) (2 * max_tasks + a.h.n - 2 * max_tasks) a.lists.now s.read_stripe.new.stripe
+counted : (s : After-fill) → let a = s.args in
+    put_mid (2 * max_tasks) (2 * max_tasks + a.h.n - 2 * max_tasks) a.lists.now s.fill.new.into
     ≡ with_counts a.lists.now a.h.n (λ i. number_at (is_big a.h) 8 a.part.now (8 * i))
-counted s = let a = s.args in stripe_placed a.lists.now s.told-lists a.h.n s.requires.sound.tasks _ (simp zero-add at s.read_stripe.ensures)
+counted s = let a = s.args in stripe_placed a.lists.now s.told-lists a.h.n s.requires.sound.tasks _ (simp zero-add at s.fill.ensures)
 
 pub judge_read-requires : goal.judge_read-requires
 judge_read-requires c =
@@ -63,7 +63,7 @@ judge_read-requires c =
 pub returns-clause-value : goal.returns-clause-value
 returns-clause-value c =
     let a = c.args in
-    let s : After-read_stripe = (goal.at.returns-clause-value c).After-read_stripe in
+    let s : After-fill = (goal.at.returns-clause-value c).After-fill in
     let count : ℕ → ℕ = λ i. number_at (is_big a.h) 8 a.part.now (8 * i) in
     c.judge_read.ensures
     ∙ ap (λ (sizes : List ℕ). verdict (meta2_tests a.h (entry sizes) a.maxchunks a.at a.part.now))
@@ -71,5 +71,5 @@ returns-clause-value c =
 
 pub returns-clause-lists_after : goal.returns-clause-lists_after
 returns-clause-lists_after c =
-    let s : After-read_stripe = (goal.at.returns-clause-lists_after c).After-read_stripe in
+    let s : After-fill = (goal.at.returns-clause-lists_after c).After-fill in
     counted s

@@ -78,7 +78,7 @@ span_ok-requires-clause-cells_in_bounds c =
     let m : After-min-w = (goal.at.span_ok-requires-clause-cells_in_bounds c).After-min-w in
     let below : j < lay.n * a.m = omega arith in
     let small : lay.n * a.m ≤ lay.n * max_blocks = mul-le-mul_left lay.n c.requires.m_in_bounds.0 in (
-      omega (arith, div-le_self j lay.n, small, lay.sound.tasks, c.fill.auto.table, width m, c.min-w.ensures),
+      omega (arith, div-le_self j lay.n, small, lay.sound.tasks, c.fill.auto.into, width m, c.min-w.ensures),
       λ _. omega (arith, held_long h, task_in_row lay.n a.m j below),
     )
 
