@@ -18,6 +18,7 @@ ghost use Rattle.pairs.specs.Open.{pair_opened, pair_found, pair_tables};
 ghost use Rattle.pairs.specs.Sessions.{pair_of, pair_write_refusal, pair_write_found, pair_closed, pair_close_found};
 
 use format::head::LISTS;
+use format::refusal;
 use format::session::{Closed, Opened, Plan, Session};
 use pairs::{PairClosed, PairOpened};
 
@@ -51,7 +52,7 @@ pub extern "C" fn lapur_write_within_lent(
     ensures value { result ≡ write_refusal (state_of Single s lists.old image.old table.old) (request_of task bytes.now) }
     ensures table_after { state_of Single s lists.new image.new table.new ≡ write_found (state_of Single s lists.old image.old table.old) (request_of task bytes.now) budget }
 {
-    container::write_within(s, lists, image, table, task, bytes, budget)
+    refusal::answered(container::write_within(s, lists, image, table, task, bytes, budget))
 }
 
 #[unsafe(no_mangle)]
@@ -65,7 +66,7 @@ pub extern "C" fn lapur_close_within_lent(
     ensures value { result ≡ close_answer (state_of Single s lists.now image.old table.now) }
     ensures image_after { image.new ≡ close_found (state_of Single s lists.now image.old table.now) budget }
 {
-    container::close_within(s, lists, image, table, budget)
+    Closed::of(s, container::close_within(s, lists, image, table, budget))
 }
 
 // ---- of a pair, with a budget for each image
@@ -115,9 +116,10 @@ pub extern "C" fn lapur_pair_write_within_lent(
     ensures value { result ≡ pair_write_refusal (pair_of (state_of First s0 lists0.old image0.old table0.old) (state_of Second s1 lists1.old image1.old table1.old)) (request_of rank bytes.now) }
     ensures table1_after { (pair_of (state_of First s0 lists0.new image0.new table0.new) (state_of Second s1 lists1.new image1.new table1.new)) ≡ pair_write_found (pair_of (state_of First s0 lists0.old image0.old table0.old) (state_of Second s1 lists1.old image1.old table1.old)) (request_of rank bytes.now) budget0 budget1 }
 {
-    pair::write_within(
+    let answer = pair::write_within(
         s0, lists0, image0, table0, s1, lists1, image1, table1, rank, bytes, budget0, budget1,
-    )
+    );
+    refusal::answered(answer)
 }
 
 #[unsafe(no_mangle)]
@@ -136,7 +138,8 @@ pub extern "C" fn lapur_pair_close_within_lent(
     ensures value { result ≡ pair_closed (pair_of (state_of First s0 lists0.now image0.old table0.now) (state_of Second s1 lists1.now image1.old table1.now)) }
     ensures image1_after { (image0.new, image1.new) ≡ pair_close_found (pair_of (state_of First s0 lists0.now image0.old table0.now) (state_of Second s1 lists1.now image1.old table1.now)) budget0 budget1 }
 {
-    pair::close_within(
+    let answer = pair::close_within(
         s0, lists0, image0, table0, s1, lists1, image1, table1, budget0, budget1,
-    )
+    );
+    PairClosed::of(s0, s1, answer)
 }
