@@ -63,7 +63,7 @@ returns-then-not-none_lacking c =
     let zero' : (needs_answer given').refusal ≡ 0 = ap (λ (a : Needed). a.refusal) (sym two) in
     let once : c.none_lacking.result ≡ each_once (tasks given) (tasks given') (entry given.ranks) (entry given'.ranks) =
     c.none_lacking.ensures ∙ lacking_once _ _ _ _ in
-    ranks_refused given given' zero zero' (test_fails once c.if-not-none_lacking.true-raw)
+    ranks_refused given given' zero zero' (test_fails once (ap not c.if-not-none_lacking.true))
 
 pub length_of-requires : goal.length_of-requires
 length_of-requires c =
@@ -114,4 +114,4 @@ returns c =
       image1 = (two i).image;
       cells1 = (two i).cells;
     })
-    ∙ needed_both given given' zero zero' (test_holds once c.if-not-none_lacking.false-raw)
+    ∙ needed_both given given' zero zero' (test_holds once (ap not c.if-not-none_lacking.false))
