@@ -35,7 +35,7 @@ pub fn number4(refusal: Refusal, field: Field, read: Read<u32>, least: u64, most
     }
 }
 
-// A field of 8 bytes, of a task that is counted from 1, or of none.
+// A field of 8 bytes, of a task that is counted from 1, or of none. It takes more than the one of 4, so one function for both would be no plainer.
 pub fn number8(
     refusal: Refusal,
     field: Field,

@@ -44,7 +44,7 @@ pub struct Needed {
     pub cells: u64,
 }
 
-// What opening answers, with the whole record.
+// What opening answers, with the whole record: C is handed it as it is made, since a result of it would copy the lists.
 #[repr(C)]
 #[derive(Drop)]
 pub struct Opened {

@@ -2,7 +2,7 @@
 // both of 3.
 #![tactic(auto)]
 
-ghost use Rattle.std.specs.Prelude.{◌≡◌, false, ◌+◌, ◌<◌, ◌≤◌, ◌^◌, ◌∷◌, [], pos, length, IfOk};
+ghost use Rattle.std.specs.Prelude.{◌≡◌, false, ◌+◌, ◌<◌, ◌≤◌, ◌^◌, ◌∷◌, [], length, IfOk};
 ghost use Rattle.endian.specs.Signed.{signed_at};
 ghost use Rattle.format.specs.Meta1.{fixed_length};
 ghost use Rattle.format.specs.Refusals.{judged, kind_of, verdict};

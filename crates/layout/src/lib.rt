@@ -70,8 +70,8 @@ pub fn last_at(n: usize) -> usize
     field::RANKS_AT + 16 * n
 }
 
-// What the layout of a container goes by: its number of tasks, its blocksize, and the requested sizes of its tasks (behind them there may be more
-// numbers, which say nothing).
+// What the layout of a container goes by: its number of tasks, its blocksize, and the requested sizes of its tasks. Behind them there may be more
+// numbers, since a record's stripe has an entry for every one of the most tasks, and the rules speak of the whole stripe.
 #[derive(Clone, Copy)]
 pub struct Layout<'a> {
     pub n: u32,

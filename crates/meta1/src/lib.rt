@@ -1,7 +1,7 @@
 // META1, the first metadata block, judged where the fields that every container has at the same place passed: its lists and its last two fields.
 #![tactic(auto)]
 
-ghost use Rattle.std.specs.Prelude.{◌≡◌, suc, ◌+◌, ◌*◌, ◌<◌, ◌≤◌, ◌^◌, pos, length, IfOk};
+ghost use Rattle.std.specs.Prelude.{◌≡◌, suc, ◌+◌, ◌*◌, ◌<◌, ◌^◌, pos, length, IfOk};
 ghost use Rattle.endian.specs.Signed.{signed};
 ghost use Rattle.format.specs.Kinds;
 ghost use Rattle.format.specs.Limits.{max_tasks};

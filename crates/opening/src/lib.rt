@@ -1,19 +1,17 @@
 // Opening a session: its tests, its record, and what it stores into the image and the table.
 #![tactic(auto)]
 
-ghost use Rattle.std.specs.Prelude.{◌≡◌, ◌+◌, ◌-◌, ◌*◌, ◌≤◌, pos, length, replicate};
-ghost use Rattle.lists.specs.Below.{list_below};
+ghost use Rattle.std.specs.Prelude.{◌≡◌, ◌+◌, ◌-◌, ◌*◌, ◌≤◌, length};
 ghost use Rattle.lists.specs.Splice.{splice};
 ghost use Rattle.format.specs.Limits.{max_tasks, max_blocks};
 ghost use Rattle.format.specs.Refusals.{first_failing, number_of, answered};
-ghost use Rattle.format.specs.Record.{entry, count_at, lists_of, with_counts, no_lists};
+ghost use Rattle.format.specs.Record.{entry, lists_of, with_counts, no_lists};
 ghost use Rattle.format.specs.declared.head.File.{File};
 ghost use Rattle.format.specs.declared.head.File.TheVariants.{Single};
 ghost use Rattle.format.specs.declared.session.Plan.{Plan};
 ghost use Rattle.format.specs.Answers.{needed_of};
 ghost use Rattle.format.specs.declared.session.Opened.{Opened};
 ghost use Rattle.format.specs.Session.{no_session};
-ghost use Rattle.format.specs.Meta2.{unused};
 ghost use Rattle.format.specs.Open.{opening_of, shape_tests, blank_cells, number_tests, needs_answer, open_refusal, open_answer, open_image, open_found, open_table};
 
 use format::head::{File, Head, LISTS};

@@ -37,7 +37,7 @@ pub struct PairNeeded {
     pub cells1: u64,
 }
 
-// What an opening answers, with both records.
+// What an opening answers, with both records: C is handed it as it is made, since a result of it would copy the lists.
 #[repr(C)]
 #[derive(Drop)]
 pub struct PairOpened {

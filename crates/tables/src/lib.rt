@@ -95,6 +95,7 @@ pub fn span_ok(cells: &[i64], k: u64, first: usize, holds: &[u64], counts: &[u64
     requires cells_in_bounds { (k + length cells.now < 2 ^ 63) × (0 < length cells.now → first < length holds.now) }
     ensures { result ≡ all_below (length cells.now) (λ t. rule_at (length holds.now) holds.now counts.now (k * length holds.now + first + t) (slice_index_or cells.now t (pos 0))) }
 {
+    // no `for`: the first row may begin at any task, so cells and tasks are gone through at two paces
     let mut rest = cells;
     let mut row = k;
     let mut i = first;
