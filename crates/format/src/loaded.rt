@@ -15,7 +15,8 @@ pub struct Loaded {
     pub closed: u32,
 }
 
-// What loading answers: C is handed it as it is made, since a result of it would copy the lists. In every answer `refusal` is 0 or a number of the module `refusal`; `fault` says what is broken where it is not 0.
+// What loading answers: C is handed it as it is made, since a result of it would copy the lists. `refusal` is 0 or a number of the module `refusal`;
+// `fault` says what is broken where it is not 0.
 #[repr(C)]
 #[derive(Drop)]
 pub struct LoadAnswer {
