@@ -82,8 +82,8 @@ pub fn test_chunk(
 ) -> Result<(), Refusal>
     ensures { answered result ≡ pair_chunk_refusal (loaded_pair (container_of First l0 lists0.now image0.now table0.now) (container_of Second l1 lists1.now image1.now table1.now)) rank chunk }
 {
-    let carrier = carrier_of(l0, lists0, image0, table0, l1, lists1, image1, table1, rank)?;
-    chunks::test_used(carrier.lists, carrier.task, chunk)
+    let c = carrier_of(l0, lists0, image0, table0, l1, lists1, image1, table1, rank)?;
+    chunks::test_used(c.lists, c.task, chunk)
 }
 
 // Where the written bytes of one chunk lie, in which of the two images: for callers that cannot be handed a part of it.
@@ -102,18 +102,11 @@ pub fn part(
     ensures value { pair_part_of result ≡ pair_part (loaded_pair (container_of First l0 lists0.now image0.now table0.now) (container_of Second l1 lists1.now image1.now table1.now)) rank chunk }
     ensures length_in_bounds { IfOk result (λ place. place.start + place.length ≤ length (cond (eqb place.file 0) image0.now image1.now)) }
 {
-    let carrier = carrier_of(l0, lists0, image0, table0, l1, lists1, image1, table1, rank)?;
-    chunks::test_used(carrier.lists, carrier.task, chunk)?;
-    let place = chunks::place_of(
-        carrier.l,
-        carrier.lists,
-        carrier.image,
-        carrier.table,
-        carrier.task,
-        chunk,
-    );
+    let c = carrier_of(l0, lists0, image0, table0, l1, lists1, image1, table1, rank)?;
+    chunks::test_used(c.lists, c.task, chunk)?;
+    let place = chunks::place_of(c.l, c.lists, c.image, c.table, c.task, chunk);
     Ok(PairPlace {
-        file: carrier.file,
+        file: c.file,
         start: place.start,
         length: place.length,
     })
@@ -157,14 +150,8 @@ pub fn total(
 ) -> Result<u64, Refusal>
     ensures { byte_count result ≡ pair_total (loaded_pair (container_of First l0 lists0.now image0.now table0.now) (container_of Second l1 lists1.now image1.now table1.now)) rank }
 {
-    let carrier = carrier_of(l0, lists0, image0, table0, l1, lists1, image1, table1, rank)?;
-    Ok(reads::total_of(
-        carrier.l,
-        carrier.lists,
-        carrier.image,
-        carrier.table,
-        carrier.task,
-    ))
+    let c = carrier_of(l0, lists0, image0, table0, l1, lists1, image1, table1, rank)?;
+    Ok(reads::total_of(c.l, c.lists, c.image, c.table, c.task))
 }
 
 // A task's stream from the place p on, copied into out across chunks: the bytes copied.
@@ -185,24 +172,9 @@ pub fn read(
     ensures out_after { out.new ≡ pair_read_output (loaded_pair (container_of First l0 lists0.now image0.now table0.now) (container_of Second l1 lists1.now image1.now table1.now)) rank p out.old }
     ensures in_bounds { IfOk result (λ copied. copied ≤ length out.old) }
 {
-    let carrier = carrier_of(l0, lists0, image0, table0, l1, lists1, image1, table1, rank)?;
-    if reads::total_of(
-        carrier.l,
-        carrier.lists,
-        carrier.image,
-        carrier.table,
-        carrier.task,
-    ) < p
-    {
+    let c = carrier_of(l0, lists0, image0, table0, l1, lists1, image1, table1, rank)?;
+    if reads::total_of(c.l, c.lists, c.image, c.table, c.task) < p {
         return Err(Refusal::PastTotal);
     }
-    Ok(reads::copy_stream(
-        carrier.l,
-        carrier.lists,
-        carrier.image,
-        carrier.table,
-        carrier.task,
-        p,
-        out,
-    ))
+    Ok(reads::copy_stream(c.l, c.lists, c.image, c.table, c.task, p, out))
 }

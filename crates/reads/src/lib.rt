@@ -54,15 +54,11 @@ fn copy_chunk(part: &[u8], skip: u64, out: &mut [u8], done: usize) -> usize
     if part.len() as u64 <= skip {
         return done;
     }
-    let from = skip as usize;
+    let rest = &part[skip as usize..];
     let room = out.len() - done;
-    if part.len() - from <= room {
-        memory::copy_in(&mut out[done..], &part[from..]);
-        return done + (part.len() - from);
-    }
-    let end = from + room;
-    memory::copy_in(&mut out[done..], &part[from..end]);
-    out.len()
+    let copied = room.min(rest.len());
+    memory::copy_in(&mut out[done..], &rest[..copied]);
+    done + copied
 }
 
 // The stream of a task that the tests allow, from p on, into out, chunk by chunk until out is full: the bytes copied.

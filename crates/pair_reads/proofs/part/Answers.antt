@@ -34,27 +34,27 @@ accepted found chunk passes place e =
     let is = e ∙ there found (λ f t. chunk_place f t chunk) in
     (λ i. record { refusal = 0; file = found.which i; start = (is i).start; length = (is i).length }) ∙ sym (when_accepted _ _ _ (sym passes))
 
-pub returns-in_err-carrier-clause-value : goal.returns-in_err-carrier-clause-value
+pub returns-in_err-c-clause-value : goal.returns-in_err-c-clause-value
 unfolding pair_chunk_refusal
-returns-in_err-carrier-clause-value c =
+returns-in_err-c-clause-value c =
     let p = err_from_is_err_and c.from_residual.result c.from_residual.ensures.1 in
-    rw (p.1, p.2) (refused _ _ _ _ (first_refuses _ _ _ c.in_err-carrier.ensures.value))
+    rw (p.1, p.2) (refused _ _ _ _ (first_refuses _ _ _ c.in_err-c.ensures.value))
 
 pub test_used-requires : goal.test_used-requires
-test_used-requires c = is_task c.in_ok-carrier.ensures.found
+test_used-requires c = is_task c.in_ok-c.ensures.found
 
 pub returns-in_err-test_used-clause-value : goal.returns-in_err-test_used-clause-value
 returns-in_err-test_used-clause-value c =
     let p = err_from_is_err_and c.from_residual-in_err-test_used.result c.from_residual-in_err-test_used.ensures.1 in
-    let held = c.in_ok-carrier.ensures in
+    let held = c.in_ok-c.ensures in
     rw (p.1, p.2) (refused _ _ _ _ (chunk_tested held.found c.args.chunk held.value c.in_err-test_used.ensures))
 
 pub place_of-place-requires-clause-le_chunk : goal.place_of-place-requires-clause-le_chunk
 place_of-place-requires-clause-le_chunk c =
-    let held = c.in_ok-carrier.ensures in
+    let held = c.in_ok-c.ensures in
     chunk_used held.found c.args.chunk held.value c.in_ok-test_used.ensures refl
 
 pub returns-clause-value : goal.returns-clause-value
 returns-clause-value c =
-    let held = c.in_ok-carrier.ensures in
+    let held = c.in_ok-c.ensures in
     accepted held.found c.args.chunk (chunk_tested held.found c.args.chunk held.value c.in_ok-test_used.ensures) _ c.place_of-place.ensures.value

@@ -59,21 +59,21 @@ module _ (p : LoadedPair) (rank place : ℕ) where
       f ∙ there found (λ k t. splice out 0 (take (length out) (drop place (stream_of k t)))) ∙ sym (when_accepted _ _ _ e),
     )
 
-pub returns-in_err-carrier : goal.returns-in_err-carrier
-returns-in_err-carrier c =
+pub returns-in_err-c : goal.returns-in_err-c
+returns-in_err-c c =
     let p = err_from_is_err_and c.from_residual.result c.from_residual.ensures.1 in
-    let r = refused _ _ c.args.p c.args.out.now _ (tests_fail _ _ _ _ c.in_err-carrier.ensures.value) in
+    let r = refused _ _ c.args.p c.args.out.now _ (tests_fail _ _ _ _ c.in_err-c.ensures.value) in
     record { value = rw (p.1, p.2) r.0; out_after = r.1; in_bounds = rw p.1 tt }
 
 pub returns-then-total_of-p : goal.returns-then-total_of-p
 returns-then-total_of-p c =
-    let held = c.in_ok-carrier.ensures in
+    let held = c.in_ok-c.ensures in
     let r = refused _ _ c.args.p c.args.out.now PastTotal (past_total _ _ _ held.value held.found c.total_of.ensures c.if-total_of-p.true) in
     record { value = r.0; out_after = r.1; in_bounds = tt }
 
 pub returns : goal.returns
 returns c =
-    let held = c.in_ok-carrier.ensures in
+    let held = c.in_ok-c.ensures in
     let copied = c.copy_stream.ensures in
     let inside = in_total _ _ _ held.value held.found c.total_of.ensures c.if-total_of-p.false in
     let r = accepted _ _ _ held.value held.found _ _ _ inside copied.out_after copied.value in

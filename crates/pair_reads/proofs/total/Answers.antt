@@ -26,12 +26,12 @@ accepted : (p : LoadedPair) (rank bytes : ℕ)
 unfolding pair_total
 accepted p rank bytes e t = ap (counted 0) t ∙ sym (when_accepted _ _ _ (sym e))
 
-pub returns-in_err-carrier : goal.returns-in_err-carrier
-returns-in_err-carrier c =
+pub returns-in_err-c : goal.returns-in_err-c
+returns-in_err-c c =
     let p = err_from_is_err_and c.from_residual.result c.from_residual.ensures.1 in
-    rw (p.1, p.2) (refused _ _ _ c.in_err-carrier.ensures.value)
+    rw (p.1, p.2) (refused _ _ _ c.in_err-c.ensures.value)
 
 pub returns : goal.returns
 returns c =
-    let found = c.in_ok-carrier.ensures.found in
-    accepted _ _ _ c.in_ok-carrier.ensures.value (c.total_of.ensures ∙ there found total_of)
+    let found = c.in_ok-c.ensures.found in
+    accepted _ _ _ c.in_ok-c.ensures.value (c.total_of.ensures ∙ there found total_of)
