@@ -92,12 +92,7 @@ fn test_numbers(ranks: &[u64], sizes: &[u64], planned: u32) -> Result<(), Refusa
 }
 
 // The lengths that an opening requires of image and table, or the refusal of its plan: tests 2, 4, 5, 6, 21, 8, 9 and 20, in this order.
-pub fn needs(
-    plan: Plan,
-    ranks: &[u64],
-    sizes: &[u64],
-    prefix: &[u8],
-) -> Result<Room, Refusal>
+pub fn needs(plan: Plan, ranks: &[u64], sizes: &[u64], prefix: &[u8]) -> Result<Room, Refusal>
     ensures { needed_of result ≡ needs_answer (opening_of Single plan ranks.now sizes.now prefix.now) }
 {
     test_shape(
