@@ -21,7 +21,7 @@ pub struct PairBroken {
 
 // Both images judged, for tables of so many cells: all tests of file 0, then all of file 1, then 25; no table is touched. Where they pass, both
 // records are handed back, and the lists that are lent are theirs.
-fn judge(
+pub fn judge(
     image0: &[u8],
     cells0: usize,
     lists0: &mut [u64; LISTS],
