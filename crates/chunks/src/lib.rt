@@ -1,7 +1,7 @@
 // One chunk of a loaded container: whether it may be read, its bytes as a part of the image, and the place of that part.
 #![tactic(auto)]
 
-ghost use Rattle.std.specs.Prelude.{◌≡◌, ◌+◌, ◌-◌, ◌*◌, ◌<◌, ◌≤◌, length, take, drop, not, pos, [], ◌∷◌, Ok, IfOk};
+ghost use Rattle.std.specs.Prelude.{◌≡◌, ◌+◌, ◌-◌, ◌*◌, ◌<◌, ◌≤◌, length, take, drop, not, pos, [], ◌∷◌, Ok, IfOk, MatchResult};
 ghost use Rattle.endian.specs.Signed.{within};
 ghost use Rattle.format.specs.Limits.{max_tasks};
 ghost use Rattle.format.specs.Refusals.{test, first_failing, answered};
@@ -11,7 +11,7 @@ ghost use Rattle.format.specs.declared.head.File.{File};
 ghost use Rattle.format.specs.declared.head.File.TheVariants.{Single};
 ghost use Rattle.format.specs.declared.loaded.Loaded.{Loaded};
 ghost use Rattle.format.specs.declared.loaded.Place.{Place};
-ghost use Rattle.format.specs.Reads.{container_of, read_tests, chunks_used, chunk_bytes, chunk_refusal, chunk_place, part_answer};
+ghost use Rattle.format.specs.Reads.{container_of, read_tests, chunks_used, chunk_bytes, chunk_refusal, chunk_part, chunk_place, part_answer};
 ghost use Rattle.format.specs.Passed.{Readable};
 
 use format::head;
@@ -135,7 +135,7 @@ pub fn chunk<'a>(
     chunk: u64,
 ) -> Result<&'a [u8], Refusal>
     ensures value { answered result ≡ chunk_refusal (container_of Single l lists.now image.now table.now) task chunk }
-    ensures bytes { IfOk result (λ part. part.now ≡ chunk_bytes (container_of Single l lists.now image.now table.now) task chunk) }
+    ensures bytes { MatchResult result (λ part. part.now ≡ chunk_part (container_of Single l lists.now image.now table.now) task chunk) (λ _. [] ≡ chunk_part (container_of Single l lists.now image.now table.now) task chunk) }
 {
     let place = part(l, lists, image, table, task, chunk)?;
     Ok(bytes_at(image, place))

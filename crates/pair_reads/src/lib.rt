@@ -2,15 +2,15 @@
 // parameter whose name ends in 0 or 1 is of that file.
 #![tactic(auto)]
 
-ghost use Rattle.std.specs.Prelude.{◌≡◌, cond, ◌+◌, ◌≤◌, eqb, length, IfOk};
+ghost use Rattle.std.specs.Prelude.{◌≡◌, cond, ◌+◌, ◌≤◌, eqb, length, [], IfOk, MatchResult};
 ghost use Rattle.format.specs.declared.head.File.TheVariants.{First, Second};
 ghost use Rattle.format.specs.declared.loaded.Loaded.{Loaded};
 ghost use Rattle.format.specs.Refusals.{first_failing, answered};
 ghost use Rattle.format.specs.Answers.{byte_count};
 ghost use Rattle.format.specs.Record.{file_in};
-ghost use Rattle.format.specs.Reads.{container_of, chunk_bytes};
+ghost use Rattle.format.specs.Reads.{container_of};
 ghost use Rattle.pairs.specs.Answers.{pair_part_of};
-ghost use Rattle.pairs.specs.Reads.{loaded_pair, file_there, task_there, pair_read_tests, pair_chunk_refusal, pair_part, pair_total, pair_read_answer, pair_read_output};
+ghost use Rattle.pairs.specs.Reads.{loaded_pair, pair_read_tests, pair_chunk_refusal, pair_chunk, pair_part, pair_total, pair_read_answer, pair_read_output};
 ghost use Rattle.pair_reads.specs.Found.{Found};
 
 use format::head::LISTS;
@@ -126,7 +126,7 @@ pub fn chunk<'a>(
     chunk: u64,
 ) -> Result<&'a [u8], Refusal>
     ensures value { answered result ≡ pair_chunk_refusal (loaded_pair (container_of First l0 lists0.now image0.now table0.now) (container_of Second l1 lists1.now image1.now table1.now)) rank chunk }
-    ensures bytes { IfOk result (λ part. part.now ≡ chunk_bytes (file_there (loaded_pair (container_of First l0 lists0.now image0.now table0.now) (container_of Second l1 lists1.now image1.now table1.now)) rank) (task_there (loaded_pair (container_of First l0 lists0.now image0.now table0.now) (container_of Second l1 lists1.now image1.now table1.now)) rank) chunk) }
+    ensures bytes { MatchResult result (λ part. part.now ≡ pair_chunk (loaded_pair (container_of First l0 lists0.now image0.now table0.now) (container_of Second l1 lists1.now image1.now table1.now)) rank chunk) (λ _. [] ≡ pair_chunk (loaded_pair (container_of First l0 lists0.now image0.now table0.now) (container_of Second l1 lists1.now image1.now table1.now)) rank chunk) }
 {
     let place = part(
         l0, lists0, image0, table0, l1, lists1, image1, table1, rank, chunk,

@@ -1,6 +1,7 @@
 -- The number and the bytes of what `part` answers.
 use mathlib.Core.Path.{◌≡◌, refl, sym, ap, ◌∙◌}
 use mathlib.Core.Bool.{Bool, true, false, cond}
+use mathlib.Core.List.{[]}
 use Prim.Native.Nat.{ℕ, ◌+◌, ◌-◌}
 use native.Mathlib.Omega.{arith}
 use borrow.Author.Tests.{eq-eqb, ne_eqb}
@@ -8,13 +9,15 @@ use lib.Dec.{eqb}
 use lib.ListN.{take, drop}
 use Rattle.std.specs.Prelude.{Ok}
 use Rattle.std.proofs.lemmas.Result.{err_from_is_err_and}
+use Rattle.format.specs.declared.refusal.Refusal.{Refusal}
+use Rattle.format.specs.Refusals.{number_of}
 use Rattle.format.specs.Reads.{chunk_place, chunk_bytes}
-use Rattle.format.proofs.Refusals.{number_is, when_accepted}
+use Rattle.format.proofs.Refusals.{some_number, number_is, when_accepted, when_refused}
 use Rattle.pairs.specs.declared.PairPart.{PairPart}
 use Rattle.pairs.specs.declared.PairPlace.{PairPlace}
 use Rattle.pairs.specs.Mapping.{file_of_rank}
 use Rattle.pairs.specs.Answers.{pair_part_of}
-use Rattle.pairs.specs.Reads.{LoadedPair, second?, file_there, task_there, pair_chunk_refusal, pair_part}
+use Rattle.pairs.specs.Reads.{LoadedPair, second?, file_there, task_there, pair_chunk_refusal, pair_chunk, pair_part}
 use Rattle.pair_reads.proofs.chunk.Goals as goal
 use Rattle.pair_reads.proofs.chunk.Goals.{then-place-eq0, else-place-eq0}
 
@@ -43,6 +46,21 @@ module _ (p : LoadedPair) (rank chunk : ℕ) where
       ap (λ (part : PairPart). take part.length (drop part.start (cond (eqb part.file 0) p.first.image p.second.image))) is
       ∙ ap (take _) (ap (drop _) image_is)
 
+  -- what a caller is to hand on for a refusal, and the bytes of an accepted one
+  none : (r : Refusal) → number_of r ≡ pair_chunk_refusal p rank chunk → [] ≡ pair_chunk p rank chunk
+  unfolding pair_chunk
+  none r e = sym (when_refused (pair_chunk_refusal p rank chunk) _ _ (omega (arith, e, some_number r)))
+
+  some : {part : PairPart} → part ≡ pair_part p rank chunk → part.refusal ≡ 0
+      → chunk_bytes (file_there p rank) (task_there p rank) chunk ≡ pair_chunk p rank chunk
+  unfolding pair_chunk
+  some e zero = sym (when_accepted (pair_chunk_refusal p rank chunk) _ _ (sym (answer e) ∙ zero))
+
+pub returns-in_err-place-clause-bytes : goal.returns-in_err-place-clause-bytes
+returns-in_err-place-clause-bytes c =
+    let p = err_from_is_err_and c.from_residual.result c.from_residual.ensures.1 in
+    rw p.1 (none _ _ _ c.in_err-place.field-0.0 (answer _ _ _ c.in_err-place.ensures.value))
+
 pub returns-in_err-place-clause-value : goal.returns-in_err-place-clause-value
 returns-in_err-place-clause-value c =
     let p = err_from_is_err_and c.from_residual.result c.from_residual.ensures.1 in
@@ -61,4 +79,4 @@ returns-clause-bytes c =
       | then-place-eq0 w ↦ rw (w.image-is, eq-eqb place.file 0 w.if-place-eq0.true) refl
       | else-place-eq0 w ↦ rw (w.image-is, ne_eqb place.file 0 w.if-place-eq0.false) refl
     ] in
-    rw (cut, image) (bytes _ _ _ place c.in_ok-place.ensures.value)
+    rw (cut, image) (bytes _ _ _ place c.in_ok-place.ensures.value ∙ some _ _ _ c.in_ok-place.ensures.value refl)
