@@ -125,8 +125,8 @@ pub fn part(
     Ok(place_of(l, lists, image, table, task, chunk))
 }
 
-// These bytes themselves, as a part of the image.
-pub fn chunk<'a>(
+// These bytes themselves, as a part of the image, or the refusal.
+pub fn try_chunk<'a>(
     l: Loaded,
     lists: &[u64; LISTS],
     image: &'a [u8],
@@ -139,4 +139,21 @@ pub fn chunk<'a>(
 {
     let place = part(l, lists, image, table, task, chunk)?;
     Ok(bytes_at(image, place))
+}
+
+// The same, and the empty part where it is refused: `test_chunk` says why.
+pub fn chunk<'a>(
+    l: Loaded,
+    lists: &[u64; LISTS],
+    image: &'a [u8],
+    table: &[i64],
+    task: u64,
+    chunk: u64,
+) -> &'a [u8]
+    ensures { result.now ≡ chunk_part (container_of Single l lists.now image.now table.now) task chunk }
+{
+    match try_chunk(l, lists, image, table, task, chunk) {
+        Ok(part) => part,
+        Err(_) => &image[..0],
+    }
 }

@@ -2,7 +2,7 @@
 #![tactic(auto)]
 
 pub use about::{chunk_size, prefix, whole_length};
-pub use chunks::{chunk, part, test_chunk};
+pub use chunks::{chunk, part, test_chunk, try_chunk};
 pub use closing::{close, close_within};
 pub use loading::load;
 pub use opening::{needs, open, open_within};

@@ -90,7 +90,7 @@ pub fn load(image: &[u8], table: &mut [i64]) -> LoadAnswer
     ensures table_after { table.new ≡ load_table Single image.now table.old }
 {
     let mut lists = [0; LISTS];
-    match judge_into(File::Single, image, table.len(), &mut lists) {
+    match judge(File::Single, image, table.len(), &mut lists) {
         Ok(loaded) => {
             fill(image, loaded, &lists, table);
             LoadAnswer {

@@ -22,8 +22,6 @@ use Rattle.format.proofs.Fields.{is_number, verdict_agree}
 use Rattle.pairs.specs.Mapping.{mapping_length, entry_tests, mapping_tests}
 use Rattle.mapping.specs.Entries.{named_tests}
 
--- ---- a signed number of 4 bytes keeps its value in 8
-
 -- ---- an entry, whose two numbers are read without a sign
 
 -- a task of a file with n tasks

@@ -137,14 +137,24 @@ fn test_opening(
     Ok(())
 }
 
+// The numbers into a stripe that is as long. The loop is not `copy_from_slice`, which wants `memmove` of those that link the library.
+fn put_stripe(stripe: &mut [u64], numbers: &[u64])
+    requires { length stripe.old ≡ length numbers.now }
+    ensures { stripe.new ≡ numbers.now }
+{
+    for (i, number) in numbers.iter().enumerate() {
+        stripe[i] = *number;
+    }
+}
+
 // The ranks and the sizes of the tasks into the lists, and for each task the same count.
 fn put_lists(lists: &mut [u64; LISTS], ranks: &[u64], sizes: &[u64], count: u64)
     requires { (length ranks.now ≤ max_tasks) × (length sizes.now ≡ length ranks.now) }
     ensures { lists.new ≡ with_counts (splice (splice lists.old 0 ranks.now) max_tasks sizes.now) (length ranks.now) (λ i. count) }
 {
     let n = ranks.len();
-    lists[..n].copy_from_slice(ranks);
-    lists[head::SIZES..head::SIZES + n].copy_from_slice(sizes);
+    put_stripe(&mut lists[..n], ranks);
+    put_stripe(&mut lists[head::SIZES..head::SIZES + n], sizes);
     lists[head::COUNTS..head::COUNTS + n].fill(count);
 }
 

@@ -2,7 +2,8 @@
 // file.
 #![tactic(auto)]
 
-ghost use Rattle.std.specs.Prelude.{◌≡◌};
+ghost use Rattle.std.specs.Prelude.{◌≡◌, OnErr};
+ghost use Rattle.format.specs.Record.{no_lists};
 ghost use Rattle.pairs.specs.Load.{pair_checked, pair_loaded, pair_load_tables};
 ghost use Rattle.pair_loading.specs.Answers.{refused_pair, pair_loaded_of};
 
@@ -19,9 +20,8 @@ pub struct PairBroken {
     pub broken: Broken,
 }
 
-// Both images judged, for tables of so many cells: all tests of file 0, then all of file 1, then 25; no table is touched. Where they pass, both
-// records are handed back, and the lists that are lent are theirs.
-pub fn judge(
+// The same as `judge`; a refusal leaves in the lists what was judged before it.
+fn judge_into(
     image0: &[u8],
     cells0: usize,
     lists0: &mut [u64; LISTS],
@@ -48,6 +48,27 @@ pub fn judge(
         broken,
     })?;
     Ok((loaded0, loaded1))
+}
+
+// Both images judged, for tables of so many cells: all tests of file 0, then all of file 1, then 25; no table is touched. Where they pass, both
+// records are handed back, and the lists that are lent are theirs; refused, both are zeros.
+pub fn judge(
+    image0: &[u8],
+    cells0: usize,
+    lists0: &mut [u64; LISTS],
+    image1: &[u8],
+    cells1: usize,
+    lists1: &mut [u64; LISTS],
+) -> Result<(Loaded, Loaded), PairBroken>
+    ensures value { pair_loaded_of result lists0.new lists1.new ≡ pair_checked image0.now image1.now cells0 cells1 }
+    ensures refused { OnErr result ((lists0.new ≡ no_lists) × (lists1.new ≡ no_lists)) }
+{
+    let answer = judge_into(image0, cells0, lists0, image1, cells1, lists1);
+    if answer.is_err() {
+        lists0.fill(0);
+        lists1.fill(0);
+    }
+    answer
 }
 
 // What is broken and in which file, beside two records of zeros marked closed.

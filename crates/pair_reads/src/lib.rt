@@ -112,8 +112,8 @@ pub fn part(
     })
 }
 
-// These bytes themselves, as a part of the image that holds them.
-pub fn chunk<'a>(
+// These bytes themselves, as a part of the image that holds them, or the refusal.
+pub fn try_chunk<'a>(
     l0: Loaded,
     lists0: &[u64; LISTS],
     image0: &'a [u8],
@@ -134,6 +134,29 @@ pub fn chunk<'a>(
     let image = if place.file == 0 { image0 } else { image1 };
     let start = place.start as usize;
     Ok(&image[start..start + place.length as usize])
+}
+
+// The same, and file 0's empty part where it is refused: `test_chunk` says why.
+pub fn chunk<'a>(
+    l0: Loaded,
+    lists0: &[u64; LISTS],
+    image0: &'a [u8],
+    table0: &[i64],
+    l1: Loaded,
+    lists1: &[u64; LISTS],
+    image1: &'a [u8],
+    table1: &[i64],
+    rank: u64,
+    chunk: u64,
+) -> &'a [u8]
+    ensures { result.now ≡ pair_chunk (loaded_pair (container_of First l0 lists0.now image0.now table0.now) (container_of Second l1 lists1.now image1.now table1.now)) rank chunk }
+{
+    match try_chunk(
+        l0, lists0, image0, table0, l1, lists1, image1, table1, rank, chunk,
+    ) {
+        Ok(part) => part,
+        Err(_) => &image0[..0],
+    }
 }
 
 // A task's bytes over all its chunks.

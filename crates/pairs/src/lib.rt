@@ -1,4 +1,4 @@
-// Document 02, W-204, as definitions, without a function: here the structs that a pair's entries answer with; in specs/ the rules, in proofs/ their
+// Document 02, W-204, as definitions: here the structs that a pair's entries answer with; in specs/ the rules, in proofs/ their
 // laws and numbers. A pair is two physical files, 0 and 1, each with its own record, image and table; a field whose name ends in 0 or 1 is of that
 // file.
 #![tactic(auto)]

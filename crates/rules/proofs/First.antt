@@ -5,7 +5,8 @@ use mathlib.Core.List.{List, [], ◌∷◌}
 use Prim.Native.Nat.{ℕ, zero, suc, ◌<◌, ◌≤◌}
 use native.Mathlib.Nat.{le_refl}
 use native.Mathlib.Omega.{arith}
-use borrow.Author.Tests.{lt-ltb, le-ltb}
+use borrow.Author.Tests.{lt-ltb, le-ltb, eq-eqb, ne_eqb}
+use lib.Dec.{eqb}
 use lib.IntN.{pos}
 use lib.ListN.{length, take, get_or}
 use lib.Seq.{length-take-le, get_or-take}
@@ -14,7 +15,7 @@ use Rattle.std.specs.List.{prefix_len}
 use Rattle.std.proofs.lemmas.List.Sums.{prefix_len_is}
 use Rattle.std.specs.Option.{is_some, is_none, unwrap_or, option_or}
 use Rattle.lists.specs.Below.{all_below, first_not}
-use Rattle.lists.proofs.Below.{all_at, all_cong, all_both, first_none, first_fails, first_cong, first_both}
+use Rattle.lists.proofs.Below.{all_at, all_cong, all_both, first_none, first_fails, first_cong, first_both, all_first}
 use Rattle.endian.specs.Signed.{within}
 use Rattle.format.specs.Limits.{max_size, max_rank, is_new, all_different, rank_rule, ranks_rule, sizes_rule}
 use Rattle.rules.specs.First.{first_bad}
@@ -36,15 +37,7 @@ module _ (n : ℕ) (rule : ℕ → Bool) where
   unfolding first_bad
   bad_some fails = rw fails
 
-  -- and back, from what a call returned
-  pub none_bad : first_bad n rule ≡ None → all_below n rule ≡ true
-  unfolding first_bad
-  none_bad e = go (all_below n rule) refl
-    where
-      go : (b : Bool) → all_below n rule ≡ b → b ≡ true
-      go true a = refl
-      go false a = let h : Some (first_not n rule) ≡ None = rw a at e in cc
-
+  -- and back, from what a call returned: the one that it found
   pub some_bad : (i : ℕ) → first_bad n rule ≡ Some i → (i ≡ first_not n rule) × (i < n) × (all_below n rule ≡ false)
   unfolding first_bad
   some_bad i e = go (all_below n rule) refl
@@ -56,15 +49,6 @@ module _ (n : ℕ) (rule : ℕ → Bool) where
           let same : i ≡ first_not n rule = sym (Some_same _ _ h) in
           (same, omega (arith, (first_fails rule n a).0), refl)
 
-  -- whether there is none
-  pub is_none_bad : is_none (first_bad n rule) ≡ all_below n rule
-  unfolding first_bad
-  is_none_bad = go (all_below n rule) refl
-    where
-      go : (b : Bool) → all_below n rule ≡ b → is_none (cond b None (Some (first_not n rule))) ≡ b
-      go true a = refl
-      go false a = refl
-
   -- where it is not there, its place stands for n
   pub bad_or_end : unwrap_or (first_bad n rule) n ≡ first_not n rule
   unfolding first_bad
@@ -73,6 +57,21 @@ module _ (n : ℕ) (rule : ℕ → Bool) where
       go : (b : Bool) → all_below n rule ≡ b → unwrap_or (cond b None (Some (first_not n rule))) n ≡ first_not n rule
       go true a = sym (first_none rule n a)
       go false a = refl
+
+  -- there is none exactly where its place is n, which is where each keeps its rule
+  is_none_end : is_none (first_bad n rule) ≡ eqb (first_not n rule) n
+  is_none_end = go (first_bad n rule) refl ∙ ap (λ (i : ℕ). eqb i n) bad_or_end
+    where
+      go : (o : Option ℕ) → first_bad n rule ≡ o → is_none o ≡ eqb (unwrap_or o n) n
+      go None e = sym (eq-eqb n n refl)
+      go (Some i) e = sym (ne_eqb i n (λ h. omega (arith, (some_bad i e).1)))
+
+  pub is_none_bad : is_none (first_bad n rule) ≡ all_below n rule
+  is_none_bad = is_none_end ∙ all_first rule n
+
+  -- and back, from a call that found none
+  pub none_bad : first_bad n rule ≡ None → all_below n rule ≡ true
+  none_bad e = sym is_none_bad ∙ ap is_none e
 
 pub bad_cong : (p q : ℕ → Bool) (n : ℕ) → ((i : ℕ) → i < n → p i ≡ q i) → first_bad n p ≡ first_bad n q
 unfolding first_bad

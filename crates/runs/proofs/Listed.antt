@@ -1,12 +1,12 @@
 -- Numbers of w bytes each, stored one after the other: one more of them, all of them, and a part of the next where the budget has no room for it.
 use mathlib.Core.Path.{◌≡◌, refl, sym, ap, ◌∙◌}
-use mathlib.Core.List.{List, [], ◌∷◌, ◌++◌, append_assoc, append-nil}
+use mathlib.Core.List.{List, [], ◌∷◌, ◌++◌, append-nil}
 use Prim.Native.Nat.{ℕ, zero, suc, ◌+◌, ◌-◌, ◌*◌, ◌<◌, ◌≤◌}
-use native.Mathlib.Nat.{mul-suc, mul-zero, mul-le-mul_left}
+use native.Mathlib.Nat.{le_refl, mul-suc, mul-zero, mul-le-mul_left}
 use native.Mathlib.Numerals.{add-one}
 use native.Mathlib.Omega.{arith}
-use lib.ListN.{length, get_or, take, length-append}
-use lib.Seq.{take_all, length-take-le, take-append-le}
+use lib.ListN.{length, get_or, take, replicate, length-append, length-replicate}
+use lib.Seq.{take_all, take_at, length-take-le, get_or_at}
 use Rattle.std.proofs.Common.{Some, None}
 use Rattle.std.specs.Prelude.{slice_get}
 use Rattle.std.specs.List.{flat_map}
@@ -16,7 +16,7 @@ use Rattle.lists.specs.Below.{join_below}
 use Rattle.lists.specs.Splice.{splice}
 use Rattle.lists.specs.Stores.{Spends}
 use Rattle.lists.proofs.Splice.{put_first, put_then}
-use Rattle.lists.proofs.Stores.{spends_same, run_first, run_then}
+use Rattle.lists.proofs.Stores.{spends_same, runs_whole, runs_cut}
 
 -- the first of a list: one more of them, and so many, by their places
 flat_more : {A : Type 0} (f : A → List ℕ) (vs : List A) (i : ℕ) (d : A) → i < length vs
@@ -31,6 +31,9 @@ listed f vs zero d h = refl
 listed f vs (suc n) d h =
     ap (λ (k : ℕ). flat_map f (take k vs)) (sym (add-one n)) ∙ flat_more f vs n d (omega arith)
     ∙ ap (λ (s : List ℕ). s ++ f (get_or vs n d)) (listed f vs n d (omega arith))
+
+listed_all : {A : Type 0} (f : A → List ℕ) (vs : List A) (d : A) → flat_map f vs ≡ join_below (length vs) (λ i. f (get_or vs i d))
+listed_all f vs d = ap (flat_map f) (sym (take_all (length vs) vs (le_refl (length vs)))) ∙ listed f vs (length vs) d (le_refl (length vs))
 
 module _ {A : Type 0} (f : A → List ℕ) (w : ℕ) (same : (v : A) → length (f v) ≡ w) where
   pub length_numbers : (vs : List A) → length (flat_map f vs) ≡ w * length vs
@@ -49,11 +52,20 @@ module _ {A : Type 0} (f : A → List ℕ) (w : ℕ) (same : (v : A) → length 
         ∙ ap (splice xs at) (ap (λ (u : A). flat_map f (take i vs) ++ f u) e ∙ sym (flat_more f vs i v l))
 
     module _ (b : ℕ) {ys : List ℕ} {i : ℕ} (room : w * length vs ≤ b) (last : length vs ≤ i) (stored : ys ≡ splice xs at (flat_map f (take i vs))) where
+      all_stored : ys ≡ splice xs at (flat_map f vs)
+      all_stored = stored ∙ ap (splice xs at) (ap (flat_map f) (take_all i vs last))
+
+      -- an empty list offers no default to read its places by: it is 0 runs of any w bytes
       whole : Spends b xs at (flat_map f vs) ys (b - w * length vs)
-      whole = record {
-        leaves = stored ∙ ap (splice xs at) (ap (flat_map f) (take_all i vs last) ∙ sym (take_all b (flat_map f vs) (omega (arith, length_numbers vs))));
-        spent = rw length_numbers;
-      }
+      unfolding join_below
+      whole = go vs room all_stored
+        where
+          go : (vs : List A) → w * length vs ≤ b → ys ≡ splice xs at (flat_map f vs) → Spends b xs at (flat_map f vs) ys (b - w * length vs)
+          go [] room e = runs_whole b xs at w (λ i. replicate w 0) (λ i. length-replicate w 0) 0 room e
+          go (v ∷ vs) room e =
+              let by_place = listed_all f (v ∷ vs) v in
+              spends_same refl (sym by_place)
+              (runs_whole b xs at w (λ i. f (get_or (v ∷ vs) i v)) (λ i. same _) (length (v ∷ vs)) room (e ∙ ap (splice xs at) by_place))
 
       pub all_whole : None ≡ slice_get rest 0 → Spends b xs at (flat_map f all) ys (b - w * length vs)
       all_whole e = spends_same refl (ap (flat_map f) (go rest e ∙ sym cut)) whole
@@ -69,16 +81,14 @@ module _ {A : Type 0} (f : A → List ℕ) (w : ℕ) (same : (v : A) → length 
           go : (rest : List A) → Some v ≡ slice_get rest 0 → all ≡ vs ++ rest → Spends b xs at (flat_map f all) zs left
           go [] e cut = cc
           go (u ∷ rest) e cut =
-              let some : suc (length vs) ≤ length all = rw (cut, length-append) (omega arith) in
-              let more : w * length vs + w ≤ w * length all = rw mul-suc at (mul-le-mul_left w some) in
-              let off : b < w * length vs + w = short (omega arith) in
-              let both : List ℕ = flat_map f vs ++ f v in
-              let long : length both ≡ w * length vs + w = rw (length-append, length_numbers vs, same v) in
-              let same_v : v ≡ u = cc in
-              let run = (run_then b xs at _ (f v) w (run_first b xs at _ (w * length vs) (length_numbers vs) whole) (same v) next (omega arith)).spends in
-              let parts : flat_map f all ≡ both ++ flat_map f rest =
-              ap (flat_map f) cut ∙ flat_map-append f vs (u ∷ rest) ∙ rw same_v (sym (append_assoc (flat_map f vs) (f u) (flat_map f rest))) in
-              record {
-                leaves = run.leaves ∙ ap (splice xs at) (sym (ap (take b) parts ∙ take-append-le b both (flat_map f rest) (omega arith)));
-                spent = run.spent ∙ omega (arith, long, length_numbers all);
-              }
+              let more : length vs < length all = rw (cut, length-append) (omega arith) in
+              let off : b < w * length vs + w = short more in
+              let same_v : u ≡ v = cc in
+              let here : get_or all (length vs) v ≡ v = ap (λ (l : List A). get_or l (length vs) v) cut ∙ get_or_at vs u rest v (length vs) refl ∙ same_v in
+              let front : take (length vs) all ≡ vs = ap (take (length vs)) cut ∙ take_at vs (u ∷ rest) (length vs) refl in
+              let by_place = ap (flat_map f) (sym front) ∙ listed f all (length vs) v (omega arith) in
+              let none : left ≡ 0 = omega (arith, next.spent, same v) in
+              rw none
+              (spends_same refl (sym (listed_all f all v))
+              (runs_cut b xs at w (λ i. f (get_or all i v)) (λ i. same _) (length vs) (length all) more room off fits
+              (all_stored ∙ ap (splice xs at) by_place) (spends_same refl (ap f (sym here)) next)))

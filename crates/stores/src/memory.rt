@@ -3,12 +3,15 @@ ghost use Rattle.std.specs.Prelude.{◌≡◌, ◌≤◌, length, replicate};
 ghost use Rattle.lists.specs.Splice.{splice};
 ghost use Rattle.lists.specs.Stores.{Spends};
 
-// src into the start of part, which is at least as long; the rest of part stays.
+// src into the start of part, which is at least as long; the rest of part stays. The loop is not `copy_from_slice`, which wants `memmove` of those that
+// link the library.
 pub fn copy_in(part: &mut [u8], src: &[u8])
     requires { length src.now ≤ length part.old }
     ensures { part.new ≡ splice part.old 0 src.now }
 {
-    part[..src.len()].copy_from_slice(src);
+    for (i, byte) in src.iter().enumerate() {
+        part[i] = *byte;
+    }
 }
 
 // Zeros into the whole of part.

@@ -17,11 +17,14 @@ fn read_some<R: Read>(from: &mut R, part: &mut [u8]) -> Result<usize>
     ensures end { IfOk result (λ n. n ≡ 0 → 0 < length part.old → IsAtEnd (R.remaining from.new)) }
     ensures kept { OnErr result (Keeps (R.remaining from.old) (R.remaining from.new)) }
 {
-    'again: for _ in 0..AGAIN {
+    let mut tries = AGAIN;
+    // The count is by hand: that it falls is what a must-fail edit takes away.
+    while 0 < tries {
         match from.read(part) {
             Err(e) if e.kind() == ErrorKind::Interrupted => {}
             other => return other,
         }
+        tries -= 1;
     }
     Err(Error::from(ErrorKind::Interrupted))
 }

@@ -15,6 +15,9 @@ use Rattle.format.proofs.Rules.{values_agree}
 use Rattle.tables.specs.Spans.{rule_at, HoldsListed}
 use Rattle.tables.proofs.Rows.{span_cong, values_placed}
 
+pub held_fewer : {n : ℕ} {held : List ℕ} → HoldsListed n held → (m : ℕ) → m ≤ n → HoldsListed m held
+held_fewer h m l = record { listed = omega (arith, h.listed); small = λ i u. h.small i (omega arith) }
+
 module _ {b n : ℕ} {sizes : List ℕ} (sound : Sound b n sizes) (before : List ℕ) (room : n ≤ length before) {held : List ℕ}
     (is : held ≡ splice before 0 (list_below n (λ i. capacity b (entry sizes i)))) where
   held_long : length (take n held) ≡ n

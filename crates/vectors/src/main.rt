@@ -1,6 +1,5 @@
 // Runs stored containers: for each file that an argument names, prints its name, the line about it and, if it is accepted, the Adler-32
 // (RFC 1950) of all its chunks' parts and of all its tasks' streams, and what a load answers whose table has one cell too few.
-// What cannot be written is left out: the lines are compared with those that are wanted.
 #![tactic(auto)]
 
 use format::head::LISTS;
@@ -69,7 +68,7 @@ struct Container<'a> {
 impl Container<'_> {
     // One chunk's part of the image.
     fn chunk(&self, task: u64, chunk: u64) -> Result<&[u8], Refusal> {
-        container::chunk(self.loaded, self.lists, self.image, self.table, task, chunk)
+        container::try_chunk(self.loaded, self.lists, self.image, self.table, task, chunk)
     }
 
     // What a read of a task's stream from p on copies into a piece.
@@ -106,6 +105,12 @@ impl Container<'_> {
     }
 }
 
+// What cannot be written is left out: the lines are compared with those that are wanted. Each text is written by itself, and what follows it is
+// tried after one that failed.
+fn print(rt: &HostRuntime, text: &[u8]) {
+    let _ = output::write_text(&mut rt.stdout(), text);
+}
+
 // The sums of all tasks' chunks and of their streams.
 fn print_sums(rt: &HostRuntime, container: &Container) {
     let mut parts = Sum::default();
@@ -114,7 +119,10 @@ fn print_sums(rt: &HostRuntime, container: &Container) {
         container.add_parts(task, &mut parts);
         container.add_stream(task, &mut streams);
     }
-    let _ = print!(rt; " | {parts} {streams}");
+    print(rt, b" | ");
+    let _ = print!(rt; "{parts}");
+    print(rt, b" ");
+    let _ = print!(rt; "{streams}");
 }
 
 // What a load answers whose table has as many cells.
@@ -150,12 +158,13 @@ fn run(rt: &HostRuntime, name: &str) -> io::Result<()> {
     let mut file = File::open(rt, name)?;
     let count = input::read_input(&mut file, &mut buf)?;
     let image = &buf[..count];
-    let text = line::line(image);
-    let _ = print!(rt; "{name}: {}", text.as_str());
+    print(rt, name.as_bytes());
+    print(rt, b": ");
+    print(rt, line::line(image).as_str().as_bytes());
     if count <= LONGEST {
         print_container(rt, image);
     }
-    let _ = println!(rt;);
+    print(rt, b"\n");
     Ok(())
 }
 

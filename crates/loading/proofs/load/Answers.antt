@@ -9,17 +9,17 @@ use Rattle.loading.proofs.load.Goals as goal
 
 pub fill-requires : goal.fill-requires
 fill-requires c =
-    fillable _ _ _ (accepted_answer _ _ _ c.in-Ok.ensures.verdict c.in-Ok.ensures.loaded c.in-Ok.ensures.lists_after) refl
+    fillable _ _ _ (accepted_answer _ _ _ c.in-Ok.ensures.verdict c.in-Ok.ensures.loaded c.in-Ok.ensures.accepted) refl
 
 pub returns-in-Ok-clause-value : goal.returns-in-Ok-clause-value
 unfolding load_answer
 returns-in-Ok-clause-value c =
-    (λ i. record { loaded = c.in-Ok.loaded; lists = c.judge_into.new.lists; refusal = 0; fault = fault_zeros c.default.result c.default.ensures i })
-    ∙ accepted_answer _ _ _ c.in-Ok.ensures.verdict c.in-Ok.ensures.loaded c.in-Ok.ensures.lists_after
+    (λ i. record { loaded = c.in-Ok.loaded; lists = c.judge.new.lists; refusal = 0; fault = fault_zeros c.default.result c.default.ensures i })
+    ∙ accepted_answer _ _ _ c.in-Ok.ensures.verdict c.in-Ok.ensures.loaded c.in-Ok.ensures.accepted
 
 pub returns-in-Ok-clause-table_after : goal.returns-in-Ok-clause-table_after
 returns-in-Ok-clause-table_after c =
-    table_filled _ _ _ (accepted_answer _ _ _ c.in-Ok.ensures.verdict c.in-Ok.ensures.loaded c.in-Ok.ensures.lists_after) refl c.fill.ensures
+    table_filled _ _ _ (accepted_answer _ _ _ c.in-Ok.ensures.verdict c.in-Ok.ensures.loaded c.in-Ok.ensures.accepted) refl c.fill.ensures
 
 pub returns-in-Err-clause-value : goal.returns-in-Err-clause-value
 unfolding load_answer

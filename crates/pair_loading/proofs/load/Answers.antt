@@ -15,11 +15,11 @@ use Rattle.pair_loading.proofs.load.Goals.{In-Ok}
 -- each file's check, where the pair is accepted
 one_of : (s : In-Ok) → let a = s.args in
     record { loaded = s.in-Ok.loaded0; lists = s.judge.new.lists0; refusal = 0; fault = no_fault } ≡ check_answer First a.image0.now (length a.table0.now)
-one_of s = let a = s.args in first_checked a.image0.now a.image1.now a.table0.now a.table1.now s.in-Ok.ensures refl
+one_of s = let a = s.args in first_checked a.image0.now a.image1.now a.table0.now a.table1.now s.in-Ok.ensures.value refl
 
 two_of : (s : In-Ok) → let a = s.args in
     record { loaded = s.in-Ok.loaded1; lists = s.judge.new.lists1; refusal = 0; fault = no_fault } ≡ check_answer Second a.image1.now (length a.table1.now)
-two_of s = let a = s.args in second_checked a.image0.now a.image1.now a.table0.now a.table1.now s.in-Ok.ensures refl
+two_of s = let a = s.args in second_checked a.image0.now a.image1.now a.table0.now a.table1.now s.in-Ok.ensures.value refl
 
 pub fill-requires : goal.fill-requires
 fill-requires c = let s : In-Ok = (goal.at.fill-requires c).In-Ok in fillable First _ _ (one_of s) refl
@@ -39,18 +39,18 @@ returns-in-Ok-clause-value c =
       file = 0;
       fault = fault_zeros c.default.result c.default.ensures i;
     })
-    ∙ c.in-Ok.ensures
+    ∙ c.in-Ok.ensures.value
 
 pub returns-in-Ok-clause-table1_after : goal.returns-in-Ok-clause-table1_after
 returns-in-Ok-clause-table1_after c =
     let s : In-Ok = (goal.at.returns-in-Ok-clause-table1_after c).In-Ok in
     let first = table_filled First _ _ (one_of s) refl c.fill.ensures in
     let second = table_filled Second _ _ (two_of s) refl c.fill-in-Ok.ensures in
-    (λ i. (first i, second i)) ∙ tables_filled _ _ _ _ c.in-Ok.ensures refl
+    (λ i. (first i, second i)) ∙ tables_filled _ _ _ _ c.in-Ok.ensures.value refl
 
 pub returns-in-Err-clause-value : goal.returns-in-Err-clause-value
 unfolding pair_loaded
-returns-in-Err-clause-value c = c.no_pair.ensures ∙ c.in-Err.ensures
+returns-in-Err-clause-value c = c.no_pair.ensures ∙ c.in-Err.ensures.value
 
 pub returns-in-Err-clause-table1_after : goal.returns-in-Err-clause-table1_after
-returns-in-Err-clause-table1_after c = tables_kept _ _ _ _ c.in-Err.ensures (λ z. omega (arith, some_number c.in-Err.field-0.broken.refusal))
+returns-in-Err-clause-table1_after c = tables_kept _ _ _ _ c.in-Err.ensures.value (λ z. omega (arith, some_number c.in-Err.field-0.broken.refusal))

@@ -35,7 +35,7 @@ returns c =
     let ys = c.args.second.now in
     let few : length xs + length ys ≤ 2 * max_tasks = omega (arith, c.requires) in
     ap not c.contains.ensures.value
-    ∙ not_any (λ y. eqb y 0) c.all_holders-found.result (length xs + length ys) (omega (arith, few, ap length c.all_holders-found.ensures ∙ length_holders (length xs) (length ys) (entry xs) (entry ys)))
-    ∙ all_cong _ _ (length xs + length ys) (λ r l. ap (λ (row : List ℕ). not (eqb (entry row r) 0)) c.all_holders-found.ensures
+    ∙ not_any (λ y. eqb y 0) c.put_all_holders.new.found (length xs + length ys) (omega (arith, few, ap length c.put_all_holders.ensures ∙ length_holders (length xs) (length ys) (entry xs) (entry ys)))
+    ∙ all_cong _ _ (length xs + length ys) (λ r l. ap (λ (row : List ℕ). not (eqb (entry row r) 0)) c.put_all_holders.ensures
     ∙ ap (λ (x : ℕ). not (eqb x 0)) (holder_at _ _ _ _ r few l))
     ∙ sym (lacking_held _ _ _ _)

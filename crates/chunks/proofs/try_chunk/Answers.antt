@@ -13,7 +13,7 @@ use Rattle.format.specs.Refusals.{number_of}
 use Rattle.format.specs.Answers.{part_of}
 use Rattle.format.specs.Reads.{Container, chunk_refusal, chunk_place, chunk_bytes, chunk_part, part_answer}
 use Rattle.format.proofs.Refusals.{some_number, number_is, when_accepted, when_refused}
-use Rattle.chunks.proofs.chunk.Goals as goal
+use Rattle.chunks.proofs.try_chunk.Goals as goal
 
 module _ (k : Container) (task chunk : ℕ) where
   number : (part_answer k task chunk).refusal ≡ chunk_refusal k task chunk

@@ -18,8 +18,8 @@ use Rattle.pairs.specs.declared.PairPlace.{PairPlace}
 use Rattle.pairs.specs.Mapping.{file_of_rank}
 use Rattle.pairs.specs.Answers.{pair_part_of}
 use Rattle.pairs.specs.Reads.{LoadedPair, second?, file_there, task_there, pair_chunk_refusal, pair_chunk, pair_part}
-use Rattle.pair_reads.proofs.chunk.Goals as goal
-use Rattle.pair_reads.proofs.chunk.Goals.{then-place-eq0, else-place-eq0}
+use Rattle.pair_reads.proofs.try_chunk.Goals as goal
+use Rattle.pair_reads.proofs.try_chunk.Goals.{then-place-eq0, else-place-eq0}
 
 module _ (p : LoadedPair) (rank chunk : ℕ) where
   number : (pair_part p rank chunk).refusal ≡ pair_chunk_refusal p rank chunk

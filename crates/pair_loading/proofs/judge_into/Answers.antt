@@ -19,8 +19,8 @@ use Rattle.pairs.specs.Load.{mapping_in}
 use Rattle.pair_loading.specs.Answers.{pair_loaded_of}
 use Rattle.pair_loading.proofs.Accepted.{found, listed, end_within, end_small, end_is, mapping_judged_holds}
 use Rattle.pair_loading.proofs.Checked.{first_refused, second_refused, mapping_refused, accepted}
-use Rattle.pair_loading.proofs.judge.Goals as goal
-use Rattle.pair_loading.proofs.judge.Goals.{In_ok-loaded0, In_ok-loaded1, After-meta2_end-end, After-judge-3}
+use Rattle.pair_loading.proofs.judge_into.Goals as goal
+use Rattle.pair_loading.proofs.judge_into.Goals.{In_ok-loaded0, In_ok-loaded1, After-meta2_end-end, After-judge-3}
 
 -- ---- what `map_err` was given, by what it gives
 
