@@ -46,8 +46,8 @@ pub fn all_holders(first: &[u64], second: &[u64]) -> [u64; PAIR_TASKS]
     found
 }
 
-// Whether every rank below the number of tasks has one. The row is its own: one that `all_holders` hands back is copied, which takes as long as all
-// else does for a few tasks.
+// Whether every rank below the number of tasks has one. The row is its own, since one that `all_holders` hands back is copied, which calls of a pair
+// with few tasks would notice.
 pub fn none_lacking(first: &[u64], second: &[u64]) -> bool
     requires { (length first.now ≤ max_tasks) × (length second.now ≤ max_tasks) }
     ensures { result ≡ none_lacking (length first.now) (length second.now) (entry first.now) (entry second.now) }
